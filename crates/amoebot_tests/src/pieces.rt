@@ -25,7 +25,7 @@ pub type Fault = (
 );
 
 /// The words that make the turns of each list by a worker of its own.
-pub static ON_THREADS: [&str; 2] = ["run", "tickets"];
+pub const ON_THREADS: [&str; 2] = ["run", "tickets"];
 
 // ---- programs
 

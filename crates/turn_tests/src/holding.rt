@@ -1,13 +1,17 @@
 //! A gate that holds one caller, with its zone claimed and nothing committed, while the others make all their turns.
 use crate::meeting::scattered;
-use crate::runs::{check_turns, work_over};
+use crate::runs::{WAYS, Way, report_over};
 use activation::Gate;
 use claim_core::{Mark, Marks};
 use claim_tests::is_report;
 use small_worlds::{Marker, lists_of};
+use std::alloc::Global;
+use std::process::Abort;
+use std::sync::Wait;
 use std::sync::atomic::{AtomicBool, AtomicU64, Ordering};
 use std::test::Fail;
 use std::thread;
+use std::thread::Threads;
 
 /// Four amoebots for each of four callers. No zone meets another one.
 static LISTS: [&[u16]; 4] = [
@@ -23,20 +27,20 @@ const LAST: u32 = 3;
 /// In its first turn caller 0 waits until each of the three others has come in its last turn, and then for a while; or until its looks are
 /// used up, and then it has missed them.
 #[derive(Drop)]
-pub struct LateGate {
+struct LateGate {
     came: AtomicU64,
     missed: AtomicBool,
 }
 
 impl LateGate {
-    pub fn new() -> LateGate {
+    fn new() -> LateGate {
         LateGate {
             came: AtomicU64::new(0),
             missed: AtomicBool::new(false),
         }
     }
 
-    pub fn missed(&self) -> bool {
+    fn missed(&self) -> bool {
         self.missed.load(Ordering::SeqCst)
     }
 
@@ -89,21 +93,33 @@ fn are_done_from(marks: &Marks, caller: u8, least: u32) -> bool {
 }
 
 /// Each of the four turns of each of the four callers is Done, and those of caller 0 come behind three entries of each other one.
-pub fn is_late(marks: &Marks) -> bool {
+fn is_late(marks: &Marks) -> bool {
     marks.callers() == 4
         && are_done_from(marks, 0, 9)
         && (1..4).all(|caller| are_done_from(marks, caller, 0))
 }
 
+/// By this way the three others make their turns while caller 0 is held, and wait for nothing.
+fn wait_for_nobody<R: Abort + Threads + Wait + Sync>(
+    rt: &R,
+    alloc: Global,
+    way: Way,
+) -> Result<(), Fail> {
+    let world = scattered(alloc)?;
+    let first = world.copy(alloc)?;
+    let lists = lists_of(alloc, 4, &world, &LISTS)?;
+    let gate = LateGate::new();
+    let report = report_over(rt, alloc, way, &Marker, world, &lists, &gate)?;
+    assert!(rt; !gate.missed() && is_late(&report.turns));
+    let passes = is_report(alloc, &Marker, &first, &lists, &report)?;
+    assert!(rt; passes);
+    Ok(())
+}
+
 #[test]
 fn nobody_waits_for_a_worker_that_is_held(rt: HostRuntime) -> Result<(), Fail> {
-    let world = scattered(rt.alloc())?;
-    let first = world.copy(rt.alloc())?;
-    let lists = lists_of(rt.alloc(), 4, &world, &LISTS)?;
-    let gate = LateGate::new();
-    let worked = work_over(&rt, rt.alloc(), &Marker, world, &lists, &gate)?;
-    assert!(rt; !gate.missed() && is_late(&worked.report.turns));
-    let passes = is_report(rt.alloc(), &Marker, &first, &lists, &worked.report)?;
-    assert!(rt; passes);
-    check_turns(&rt, &worked)
+    for way in WAYS {
+        wait_for_nobody(&rt, rt.alloc(), way)?;
+    }
+    Ok(())
 }
