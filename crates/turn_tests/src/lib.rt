@@ -22,6 +22,6 @@ mod reports;
 #[cfg(test)]
 mod runs;
 #[cfg(test)]
-mod ticket_turns;
+mod tickets;
 #[cfg(test)]
 mod turns;

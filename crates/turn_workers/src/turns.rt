@@ -1,7 +1,7 @@
 ghost use Rattle.std.specs.Prelude.{◌≡◌, ◌<◌, length, Some};
-ghost use Rattle.turn_workers.specs.Turns.{turn_at, turns_of};
+ghost use Rattle.turn_desks.specs.Turns.{turn_at, turns_of};
 
-use activation::Turn;
+use node_claims::Turn;
 use std::marker::Model;
 
 /// What became of each turn of each caller, as the activation of that turn answered it.

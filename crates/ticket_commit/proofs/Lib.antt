@@ -1,0 +1,7 @@
+pub mod DrawnLists
+pub mod MergeSteps
+pub mod OwnMerges
+pub mod OwnLemmas
+pub mod MarkedTurns
+pub mod TicketEnds
+pub mod TicketReports
