@@ -265,7 +265,8 @@ impl Sink for FailingSink {
 #[test]
 fn judges_the_words_before_it_reads(rt: HostRuntime) -> Result<(), Fail> {
     let usage =
-        "usage: run / interleave / replay / check / measure / show NAME / sample NUMBER / renew / rewind NUMBER / rounds / elect / tickets\n";
+        "usage: run / interleave / replay / check / measure / show NAME / sample NUMBER / renew / rewind NUMBER / rounds / elect / \
+        tickets\n";
     for texts in &NO_COMMANDS {
         let mut input = unread(rt.alloc())?;
         check_line(&rt, rt.alloc(), texts, &mut input, Status::Words, usage)?;
