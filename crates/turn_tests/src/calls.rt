@@ -246,3 +246,16 @@ fn each_turn_that_is_not_busy_comes_to_the_gate_once(rt: HostRuntime) -> Result<
     }
     Ok(())
 }
+
+/// In both turns the gate is called once, and then the decision is made.
+#[test]
+fn workers_decide_right_behind_the_gate(rt: HostRuntime) -> Result<(), Fail> {
+    for way in WAYS {
+        let decider = Watching::new();
+        let gate = Before { decider: &decider };
+        let bots = [standing(2, 3, 0)];
+        report_of(&rt, rt.alloc(), way, &decider, &bots, 2, &[&[0]], &gate)?;
+        assert!(rt; decider.has_seen(2));
+    }
+    Ok(())
+}
