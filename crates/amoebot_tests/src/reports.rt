@@ -6,16 +6,18 @@ use crate::meetings::{MEETINGS, ONE_FOR_SIXTEEN, SIXTEEN_APART, SIXTEEN_FOR_SIXT
 use crate::pieces::ON_THREADS;
 use crate::tests::{check, joined, words};
 use action_eval::Runner;
-use amoebot_run::{Ended, Status, run_text};
+use activation::{Gate, NoGate};
+use amoebot_run::{Ended, Status, run, run_text};
 use claim_core::Report;
 use claim_tests::is_report;
-use outer_io::SureSink;
+use outer_io::{SureSink, SureSource};
 use shape_files::{Form, read_sections};
 use shipped_programs::HEXAGON;
 use std::alloc::{AllocError, Global};
 use std::process::Abort;
 use std::sync::Wait;
 use std::test::Fail;
+use std::thread;
 use std::thread::Threads;
 
 /// What a run leaves: its report, and the document with the text behind it.
@@ -25,6 +27,57 @@ pub(crate) struct Replayed {
     pub(crate) whole: Vec<u8>,
 }
 
+/// Runs the document, whose last byte is LF, by a word, with this gate. Turns come with `run` alone, and tickets with `tickets` alone.
+fn run_by<R: Abort + Threads + Wait + Sync, G: Gate>(
+    rt: &R,
+    alloc: Global,
+    word: &str,
+    document: &str,
+    gate: &G,
+) -> Result<Replayed, Fail> {
+    let words = words(alloc, &[word])?;
+    let mut input = SureSource::new(alloc, document.as_bytes())?;
+    let mut out = SureSink::new(alloc, 4_000_000)?;
+    let ended = run(rt, alloc, words.as_slice(), &mut input, &mut out, gate);
+    let Ended {
+        status,
+        report,
+        turns,
+        tickets,
+    } = ended;
+    assert_eq!(rt; status, Status::Done);
+    assert_eq!(rt;
+        (turns.is_some(), tickets.is_some()),
+        (word == "run", word == "tickets")
+    );
+    let report = report.ok_or("a report")?;
+    let mut whole: Vec<u8> = Vec::new(alloc);
+    whole.extend_from_slice(document.as_bytes())?;
+    whole.extend_from_slice(out.bytes())?;
+    Ok(Replayed { report, whole })
+}
+
+/// With the text behind it the document agrees under `replay`.
+fn check_replay<R: Abort + Threads + Wait + Sync>(
+    rt: &R,
+    alloc: Global,
+    replayed: &Replayed,
+) -> Result<(), Fail> {
+    let entries = replayed.report.journal.entries().len();
+    let agrees = format!(in alloc; "agrees {entries}\n")?;
+    let whole = replayed.whole.as_slice();
+    check(
+        rt,
+        alloc,
+        &["replay"],
+        whole,
+        Status::Done,
+        None,
+        agrees.as_str(),
+    )?;
+    Ok(())
+}
+
 /// Runs the document, whose last byte is LF, by a word, and compares what `replay` says of it with the text behind it.
 pub(crate) fn run_and_replay<R: Abort + Threads + Wait + Sync>(
     rt: &R,
@@ -32,31 +85,9 @@ pub(crate) fn run_and_replay<R: Abort + Threads + Wait + Sync>(
     word: &str,
     document: &str,
 ) -> Result<Replayed, Fail> {
-    let mut out = SureSink::new(alloc, 4_000_000)?;
-    let words = words(alloc, &[word])?;
-    let Ended {
-        status,
-        report,
-        turns,
-        tickets,
-    } = run_text(rt, alloc, words.as_slice(), document.as_bytes(), &mut out);
-    assert_eq!(rt; status, Status::Done);
-    assert!(rt; turns.is_some() == (word == "run") && tickets.is_some() == (word == "tickets"));
-    let report = report.ok_or("a report")?;
-    let mut whole: Vec<u8> = Vec::new(alloc);
-    whole.extend_from_slice(document.as_bytes())?;
-    whole.extend_from_slice(out.bytes())?;
-    let agrees = format!(in alloc; "agrees {}\n", report.journal.entries().len())?;
-    check(
-        rt,
-        alloc,
-        &["replay"],
-        whole.as_slice(),
-        Status::Done,
-        None,
-        agrees.as_str(),
-    )?;
-    Ok(Replayed { report, whole })
+    let replayed = run_by(rt, alloc, word, document, &NoGate)?;
+    check_replay(rt, alloc, &replayed)?;
+    Ok(replayed)
 }
 
 /// Whether the report is one of the document's run, by the checker.
@@ -74,17 +105,44 @@ pub(crate) fn is_report_of(alloc: Global, document: &str, report: &Report) -> Re
     is_report(alloc, &runner, &world, &lists, report)
 }
 
-/// Runs the document by a word. The report passes the checker, and the text behind the document agrees.
-pub(crate) fn right_report<R: Abort + Threads + Wait + Sync>(
+/// Runs the document by a word, with this gate. The report passes the checker, and the text behind the document agrees.
+pub(crate) fn right_report<R: Abort + Threads + Wait + Sync, G: Gate>(
     rt: &R,
     alloc: Global,
     word: &str,
     document: &str,
+    gate: &G,
 ) -> Result<Report, Fail> {
-    let Replayed { report, whole: _ } = run_and_replay(rt, alloc, word, document)?;
+    let replayed = run_by(rt, alloc, word, document, gate)?;
+    check_replay(rt, alloc, &replayed)?;
+    let Replayed { report, whole: _ } = replayed;
     let passes = is_report_of(alloc, document, &report)?;
     assert!(rt; passes, "{word} of {document}");
     Ok(report)
+}
+
+/// A gate that lets other threads go first, so that zones are held for a while.
+struct Yielding;
+
+impl Gate for Yielding {
+    fn claimed(&self, _caller: u8, _turn: u32) {
+        for _time in 0..20 {
+            thread::yield_now();
+        }
+    }
+}
+
+/// By each word the document leaves right reports, without a gate and with one that lets other threads go first.
+pub(crate) fn check_reports<R: Abort + Threads + Wait + Sync>(
+    rt: &R,
+    alloc: Global,
+    document: &str,
+) -> Result<(), Fail> {
+    for word in ON_THREADS {
+        right_report(rt, alloc, word, document, &NoGate)?;
+        right_report(rt, alloc, word, document, &Yielding)?;
+    }
+    Ok(())
 }
 
 /// Eighty runs by each word, of two, four and sixteen lists.
@@ -92,10 +150,8 @@ pub(crate) fn right_report<R: Abort + Threads + Wait + Sync>(
 fn reports_where_zones_meet_pass_the_checker_and_agree(rt: HostRuntime) -> Result<(), Fail> {
     for pieces in MEETINGS {
         let document = joined(rt.alloc(), pieces)?;
-        for _time in 0..20 {
-            for word in ON_THREADS {
-                right_report(&rt, rt.alloc(), word, document.as_str())?;
-            }
+        for _time in 0..10 {
+            check_reports(&rt, rt.alloc(), document.as_str())?;
         }
     }
     Ok(())
@@ -119,7 +175,7 @@ fn check_sixteen<R: Abort + Threads + Wait + Sync>(
 ) -> Result<(), Fail> {
     for (pieces, least, most) in &FOR_SIXTEEN {
         let document = joined(alloc, pieces)?;
-        let report = right_report(rt, alloc, word, document.as_str())?;
+        let report = right_report(rt, alloc, word, document.as_str(), &NoGate)?;
         let entries = report.journal.entries().len();
         assert!(rt;
             *least <= entries && entries <= *most,
