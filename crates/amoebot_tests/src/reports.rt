@@ -91,7 +91,7 @@ pub(crate) fn run_and_replay<R: Abort + Threads + Wait + Sync>(
 }
 
 /// Whether the report is one of the document's run, by the checker.
-pub(crate) fn is_report_of(alloc: Global, document: &str, report: &Report) -> Result<bool, Fail> {
+fn is_report_of(alloc: Global, document: &str, report: &Report) -> Result<bool, Fail> {
     if document.len() > 1_000_000 {
         return Ok(false);
     }
