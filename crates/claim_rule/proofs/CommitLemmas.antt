@@ -1,13 +1,10 @@
 -- The state after a commit of a caller, by either way: what it leaves, and what joins the caller's own entries.
-use Rattle.std.proofs.Common.{◌≡◌, ◌≢◌, ℕ, zero, suc, ◌+◌, ◌*◌, ◌<◌, ◌≤◌, Option, inr, List, [], ◌∷◌, ◌++◌, map, length, length-append, set, length-set, Some, None, inl, ap, sym, refl, subst, ◌∙◌, arith, eq-eqb, ne_eqb}
-use Rattle.std.specs.Prelude.{slice_get, slice_index, if◌then◌else◌}
+use Rattle.std.proofs.Common.{◌≡◌, ◌≢◌, ℕ, zero, suc, ◌+◌, ◌<◌, ◌≤◌, Option, List, [], ◌∷◌, ◌++◌, map, length, length-append, set, Some, None, ap, sym, refl, subst, ◌∙◌, arith, eq-eqb, ne_eqb}
+use Rattle.std.specs.Prelude.{slice_get, if◌then◌else◌}
 use Rattle.std.specs.List.{All, Contains}
 use Rattle.std.proofs.lemmas.List.{map-append, append-nil}
-use Rattle.std.proofs.lemmas.List.Elements.{All-head, All-tail, All-weaker, All-push, All-contains}
-use Rattle.std.proofs.lemmas.Option.{none-some, same_Some, slice_get_within, get_or_from_slice_get}
-use mathlib.Core.Option as home
-use Rattle.atomic_table.specs.Table.{step, gives, put_back, Allows}
-use Rattle.atomic_table.proofs.Lists.{set_else, set_here}
+use Rattle.std.proofs.lemmas.List.Elements.{All-head, All-tail, All-weaker, All-contains}
+use Rattle.std.proofs.lemmas.Option.{none-some, same_Some, get_or_from_slice_get}
 use Rattle.tri_lattice.specs.Extent.{Extent}
 use Rattle.amoebot_state.specs.declared.cell.CellName.{CellName}
 use Rattle.amoebot_state.specs.declared.cell.Cell.{Cell}
@@ -23,10 +20,10 @@ use Rattle.claim_core.specs.declared.marks.Mark.{Mark}
 use Rattle.claim_core.specs.declared.marks.Mark.TheVariants as mark
 use Rattle.claim_core.specs.declared.state.Caller.{Caller}
 use Rattle.claim_core.specs.declared.state.Committed.{Committed}
-use Rattle.claim_core.specs.Cells.{number, at, patched, cells}
-use Rattle.claim_core.specs.Machine.{Setup, State, bot, entry, freeing_caller, patched_pair, commits, by_phase, acts, next}
+use Rattle.claim_core.specs.Cells.{number, at, patched}
+use Rattle.claim_core.specs.Machine.{Setup, State, bot, entry, freeing_caller, patched_pair, commits}
 use Rattle.claim_core.specs.Reached.{entries_of, placed, IsShownAt}
-use Rattle.claim_core.specs.Soundness.{IsSetup, IsTurn, IsHeld, HasDecision, HasFront, names, marked}
+use Rattle.claim_core.specs.Soundness.{IsHeld, HasDecision, names}
 use Rattle.claim_core.proofs.Nexts.{frees-marks}
 use Rattle.claim_core.proofs.Places.{at-put_else}
 use Rattle.claim_core.proofs.Tags.{tag-positive}
@@ -35,25 +32,17 @@ use Rattle.claim_core.proofs.Frames.{own_stays}
 use Rattle.claim_core.proofs.HolderLemmas.{framed, is_known}
 use Rattle.claim_core.proofs.Stays.{IsWorldAt-append, world_last}
 use Rattle.claim_core.proofs.Commitments.{entries_of-push}
-use Rattle.claim_rule.specs.declared.views.Slot.{Slot}
-use Rattle.claim_rule.specs.declared.views.Slot.TheVariants as slot
 use Rattle.claim_rule.specs.declared.views.Record.{Record}
 use Rattle.claim_rule.specs.declared.views.Terms.{Terms}
-use Rattle.claim_rule.specs.Views.{Content, Seated, view_of, own, setup_of_terms}
+use Rattle.claim_rule.specs.Views.{Content, setup_of_terms}
 use Rattle.claim_rule.specs.Manners.{CommitWay}
-use Rattle.claim_rule.specs.Stands.{cell_tag, journal_slot, IsWon, IsStamped, turns_left, IsCoreJournal, HasTaken, HasCommitted, AreWords, AreHomes, KeepsRule}
+use Rattle.claim_rule.specs.Stands.{cell_tag, turns_left}
 use Rattle.claim_rule.specs.Plays.{HoldsZone}
-use Rattle.claim_rule.specs.Commits.{commit_at, with_commit, IsToCommit, stored}
-use Rattle.claim_rule.specs.Nexts.{GoesTo, IsAt}
-use Rattle.claim_rule.proofs.Tables.{journal_written, journal_else, stamped_alike}
-use Rattle.claim_rule.proofs.Settles.{won_renewed, settled_now}
-use Rattle.claim_rule.proofs.NodeReleases.{frees_won}
-use Rattle.amoebot_state.proofs.Fronts.{slice_get_behind}
+use Rattle.claim_rule.specs.Commits.{commit_at, with_commit}
+use Rattle.claim_rule.specs.Nexts.{IsAt}
 use Rattle.claim_core.proofs.Numbers.{length-patched}
-use Rattle.claim_rule.specs.Words.{word_occ, word_stamp}
-use Rattle.claim_rule.proofs.Moves.{sound, on, mine, caller_at, counts, my_stamps, moved, taken_else}
+use Rattle.claim_rule.proofs.Moves.{sound, mine, caller_at, counts}
 use Rattle.claim_rule.proofs.Shows.{shows}
-use Rattle.claim_rule.proofs.NextsLemmas.{allowed}
 use Rattle.claim_rule.proofs.MarkLemmas.{one_fewer}
 
 -- what stands at no place of a list

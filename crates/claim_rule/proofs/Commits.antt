@@ -1,47 +1,29 @@
 -- A commit keeps the rule: what other callers have recorded stays true.
-use Rattle.std.proofs.Common.{◌≡◌, ◌≢◌, ℕ, zero, suc, ◌+◌, ◌*◌, ◌<◌, ◌≤◌, Option, inr, List, [], ◌∷◌, ◌++◌, map, length, length-append, set, length-set, Some, None, inl, ap, sym, refl, subst, ◌∙◌, arith, eq-eqb, ne_eqb}
-use Rattle.std.specs.Prelude.{slice_get, slice_index, if◌then◌else◌}
-use Rattle.std.specs.List.{All, Contains}
-use Rattle.std.proofs.lemmas.List.{map-append, append-nil}
-use Rattle.std.proofs.lemmas.List.Elements.{All-head, All-tail, All-weaker, All-push, All-contains}
-use Rattle.std.proofs.lemmas.Option.{none-some, same_Some, slice_get_within, get_or_from_slice_get}
+use Rattle.std.proofs.Common.{◌≡◌, ◌≢◌, ℕ, ◌+◌, ◌*◌, ◌<◌, inr, List, [], ◌∷◌, ◌++◌, map, length, set, length-set, Some, None, inl, ap, sym, refl, subst, ◌∙◌, arith}
+use Rattle.std.specs.Prelude.{slice_get, slice_index}
+use Rattle.std.proofs.lemmas.List.Elements.{All-weaker, All-push}
+use Rattle.std.proofs.lemmas.Option.{none-some, same_Some, slice_get_within}
 use mathlib.Core.Option as home
 use Rattle.atomic_table.specs.Table.{step, gives, put_back, Allows}
 use Rattle.atomic_table.proofs.Lists.{set_else, set_here}
-use Rattle.tri_lattice.specs.Extent.{Extent}
-use Rattle.amoebot_state.specs.declared.cell.CellName.{CellName}
-use Rattle.amoebot_state.specs.declared.cell.Cell.{Cell}
 use Rattle.amoebot_state.specs.declared.verdict.Change.{Change}
 use Rattle.amoebot_state.specs.declared.verdict.Entry.{Entry}
 use Rattle.amoebot_state.specs.declared.verdict.Verdict.{Verdict}
 use Rattle.amoebot_state.specs.declared.verdict.Verdict.TheVariants as decision
-use Rattle.amoebot_state.specs.Pairs.{Pairs, cell_of, plain_patch}
-use Rattle.amoebot_state.specs.Steps.{DecidesChange}
-use Rattle.amoebot_state.specs.Zones.{Shown, zone}
-use Rattle.amoebot_state.proofs.Members.{Has-from_Contains, Contains-from_Has}
-use Rattle.claim_core.specs.declared.marks.Mark.{Mark}
+use Rattle.amoebot_state.specs.Pairs.{plain_patch}
+use Rattle.amoebot_state.specs.Zones.{Shown}
 use Rattle.claim_core.specs.declared.marks.Mark.TheVariants as mark
-use Rattle.claim_core.specs.declared.state.Caller.{Caller}
-use Rattle.claim_core.specs.declared.state.Committed.{Committed}
-use Rattle.claim_core.specs.Cells.{number, at, patched, cells}
-use Rattle.claim_core.specs.Machine.{Setup, State, bot, entry, freeing_caller, patched_pair, commits, by_phase, acts, next}
-use Rattle.claim_core.specs.Reached.{entries_of, placed, IsShownAt}
-use Rattle.claim_core.specs.Soundness.{IsSetup, IsTurn, IsHeld, HasDecision, HasFront, names, marked}
-use Rattle.claim_core.proofs.Nexts.{frees-marks}
-use Rattle.claim_core.proofs.Places.{at-put_else}
-use Rattle.claim_core.proofs.Tags.{tag-positive}
-use Rattle.claim_core.proofs.Fronts.{name_of_held}
-use Rattle.claim_core.proofs.Frames.{own_stays}
-use Rattle.claim_core.proofs.HolderLemmas.{framed, is_known}
-use Rattle.claim_core.proofs.Stays.{IsWorldAt-append, world_last}
-use Rattle.claim_core.proofs.Commitments.{entries_of-push}
+use Rattle.claim_core.specs.Cells.{cells}
+use Rattle.claim_core.specs.Machine.{Setup, State, bot, entry, patched_pair, commits, by_phase, acts, next}
+use Rattle.claim_core.specs.Reached.{IsShownAt}
+use Rattle.claim_core.specs.Soundness.{IsSetup, IsTurn, IsHeld, HasDecision, HasFront, marked}
 use Rattle.claim_rule.specs.declared.views.Slot.{Slot}
 use Rattle.claim_rule.specs.declared.views.Slot.TheVariants as slot
 use Rattle.claim_rule.specs.declared.views.Record.{Record}
 use Rattle.claim_rule.specs.declared.views.Terms.{Terms}
 use Rattle.claim_rule.specs.Views.{Content, Seated, view_of, own, setup_of_terms}
 use Rattle.claim_rule.specs.Manners.{by_journal, first_plain}
-use Rattle.claim_rule.specs.Stands.{cell_tag, journal_slot, IsWon, IsStamped, turns_left, IsCoreJournal, HasTaken, HasCommitted, AreWords, AreHomes, KeepsRule}
+use Rattle.claim_rule.specs.Stands.{journal_slot, IsWon, IsStamped, turns_left, IsCoreJournal, HasTaken, HasCommitted, AreWords, AreHomes, KeepsRule}
 use Rattle.claim_rule.specs.Plays.{HoldsZone}
 use Rattle.claim_rule.specs.Commits.{commit_at, with_commit, IsToCommit, stored}
 use Rattle.claim_rule.specs.Nexts.{GoesTo, IsAt}
@@ -49,7 +31,6 @@ use Rattle.claim_rule.proofs.Tables.{journal_written, journal_else, stamped_alik
 use Rattle.claim_rule.proofs.Settles.{won_renewed, settled_now}
 use Rattle.claim_rule.proofs.NodeReleases.{frees_won}
 use Rattle.amoebot_state.proofs.Fronts.{slice_get_behind}
-use Rattle.claim_core.proofs.Numbers.{length-patched}
 use Rattle.claim_rule.specs.Words.{word_occ, word_stamp}
 use Rattle.claim_rule.proofs.Moves.{sound, on, mine, caller_at, counts, my_stamps, moved, taken_else}
 use Rattle.claim_rule.proofs.NextsLemmas.{allowed}

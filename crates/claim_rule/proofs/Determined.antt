@@ -1,11 +1,11 @@
 -- Words, values at home and views stand for at most one state.
-use Rattle.std.proofs.Common.{◌≡◌, ◌≢◌, ℕ, ◌+◌, ◌<◌, ◌≤◌, List, [], ◌∷◌, length, drop, map, Option, Some, None, inl, inr, ap, sym, refl, subst, ◌∙◌, arith, eq-eqb, ne_eqb}
-use Rattle.std.specs.Prelude.{slice_get, slice_index, is_some, if◌then◌else◌}
+use Rattle.std.proofs.Common.{◌≡◌, ℕ, ◌<◌, List, length, map, Option, Some, None, inl, inr, ap, sym, refl, subst, ◌∙◌, arith}
+use Rattle.std.specs.Prelude.{slice_get, slice_index, is_some}
 use Rattle.std.specs.List.{All}
-use Rattle.std.proofs.lemmas.Bool.{cases_eq, cases_lt, false≢true}
+use Rattle.std.proofs.lemmas.Bool.{cases_lt, false≢true}
 use Rattle.std.proofs.lemmas.List.{ext_get_or}
-use Rattle.std.proofs.lemmas.List.Elements.{All-head, All-tail, All-weaker}
-use Rattle.std.proofs.lemmas.Option.{none-some, same_Some, slice_get_within}
+use Rattle.std.proofs.lemmas.List.Elements.{All-weaker}
+use Rattle.std.proofs.lemmas.Option.{none-some, slice_get_within}
 use Rattle.amoebot_state.specs.declared.verdict.Entry.{Entry}
 use Rattle.amoebot_state.specs.declared.verdict.Verdict.{Verdict}
 use Rattle.amoebot_state.specs.Steps.{Run}
@@ -24,7 +24,7 @@ use Rattle.claim_rule.specs.declared.views.Terms.{Terms}
 use Rattle.claim_rule.specs.declared.views.View.{View}
 use Rattle.claim_rule.specs.Words.{word_tag}
 use Rattle.claim_rule.specs.Views.{Content, setup_of_terms}
-use Rattle.claim_rule.specs.Manners.{CommitWay, by_journal, after_by, first_plain}
+use Rattle.claim_rule.specs.Manners.{CommitWay, after_by, first_plain}
 use Rattle.claim_rule.specs.Stands.{cell_tag, HasTaken, HasRecord, Stands}
 use Rattle.claim_rule.specs.Laws.{StateIsDetermined}
 use Rattle.claim_rule.proofs.NextsLemmas.{tags_count}

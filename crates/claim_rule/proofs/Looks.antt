@@ -1,5 +1,5 @@
 -- A look at the journal's length, for the mark of a turn that is refused or changes nothing, keeps the rule.
-use Rattle.std.proofs.Common.{◌≡◌, ℕ, zero, suc, ◌+◌, ◌*◌, ◌/◌, ◌<◌, ◌≤◌, ◌⊎◌, inl, inr, List, [], ◌∷◌, ◌++◌, map, length, set, Option, Some, None, ap, sym, refl, ◌∙◌, arith, length-append}
+use Rattle.std.proofs.Common.{◌≡◌, ℕ, zero, suc, ◌<◌, ◌≤◌, ◌⊎◌, inl, inr, List, [], ◌∷◌, ◌++◌, map, length, set, Some, ap, sym, refl, ◌∙◌, arith, length-append}
 use Rattle.std.specs.Prelude.{slice_get, slice_index}
 use Rattle.std.proofs.lemmas.Option.{none-some, same_Some, slice_get_within}
 use mathlib.Core.Option as home
@@ -14,8 +14,8 @@ use Rattle.std.specs.List.{All}
 use Rattle.amoebot_state.specs.Configs.{Config}
 use Rattle.claim_core.specs.Cells.{cells}
 use Rattle.claim_core.specs.Cores.{unmarked}
-use Rattle.claim_core.specs.Machine.{Setup, State, looks, by_phase, freeing_caller}
-use Rattle.claim_core.specs.Soundness.{IsSetup, Sound, IsHeld, marked}
+use Rattle.claim_core.specs.Machine.{Setup, State, looks, by_phase}
+use Rattle.claim_core.specs.Soundness.{IsSetup, IsHeld, marked}
 use Rattle.claim_core.specs.Good.{place_of}
 use Rattle.claim_core.specs.declared.state.Look.TheVariants as look
 use Rattle.tri_lattice.specs.declared.node.Node.{Node}

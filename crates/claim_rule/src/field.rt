@@ -70,7 +70,7 @@ impl<'d, D: Decider, W: Manner> Field<'d, D, W> {
 
     /// Whether a cell, which has this number, is a node that is a wall.
     pub(crate) fn is_wall(&self, cell: CellName, cell_number: usize) -> bool
-        requires { number self.now.terms.world.area cell ≡ Some cell_number }
+        requires numbered { number self.now.terms.world.area cell ≡ Some cell_number }
         ensures { result ≡ is_wall_cell self.now.terms.world cell }
     {
         match cell {

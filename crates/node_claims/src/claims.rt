@@ -38,10 +38,7 @@ pub fn try_claim<D: Decider, W: Manner>(
 }
 
 /// Marks the turn of a claim whose verdict is Idle or Failed, at the length that the journal has while the zone is held.
-pub fn place<D: Decider, W: Manner>(
-    claimed: &mut Claimed<D, W>,
-    field: &Field<'_, D, W>,
-) -> Seen<W>
+pub fn place<D: Decider, W: Manner>(claimed: &mut Claimed<D, W>, field: &Field<'_, D, W>) -> Seen<W>
     requires field { IsOf field.now claimed.old }
     requires looks { IsToLook claimed.old }
     ensures marked { claimed.new ≡ goes claimed.old (marked_at (about D.verdict claimed.old.view) (doing claimed.old) result.place) }
@@ -53,10 +50,7 @@ pub fn place<D: Decider, W: Manner>(
 }
 
 /// Frees the zone of a turn that has its mark, the cell that was won last first. The values stay as they were found.
-pub fn release<D: Decider, W: Manner>(
-    claimed: Claimed<D, W>,
-    field: &Field<'_, D, W>,
-) -> Seat<D, W>
+pub fn release<D: Decider, W: Manner>(claimed: Claimed<D, W>, field: &Field<'_, D, W>) -> Seat<D, W>
     requires field { IsOf field.now claimed }
     requires looked { IsMarked claimed }
     ensures { result ≡ goes claimed (at_next (about D.verdict claimed.view) (doing claimed).turn (doing claimed).marks) }
@@ -76,10 +70,7 @@ pub fn release_settled<D: Decider, W: Manner>(
 }
 
 /// Frees all cells that are held.
-fn free_all<D: Decider, W: Manner>(
-    freeing: Freeing<D, W>,
-    field: &Field<'_, D, W>,
-) -> Seat<D, W>
+fn free_all<D: Decider, W: Manner>(freeing: Freeing<D, W>, field: &Field<'_, D, W>) -> Seat<D, W>
     requires { IsOf field.now freeing }
     ensures { result ≡ freed_all D.verdict freeing }
 {

@@ -1,7 +1,6 @@
 use Rattle.std.proofs.Common.{◌∷◌, [], reverse, ap, sym, subst, ◌∙◌}
 use Rattle.std.proofs.lemmas.List.{reverse-append}
 use Rattle.std.proofs.lemmas.Option.{none-some}
-use Rattle.amoebot_state.specs.declared.cell.CellName.TheVariants as name
 use Rattle.amoebot_state.specs.Configs.{Config}
 use Rattle.amoebot_state.specs.Pairs.{Pairs}
 use Rattle.claim_core.specs.Cells.{number}

@@ -1,4 +1,4 @@
-use Rattle.std.proofs.Common.{◌≡◌, ◌<◌, ◌++◌, ◌∷◌, [], Some, length, reverse, ap, sym, subst, ◌∙◌}
+use Rattle.std.proofs.Common.{◌<◌, ◌++◌, ◌∷◌, [], length, reverse, ap, sym, subst, ◌∙◌}
 use Rattle.amoebot_state.specs.Configs.{Config}
 use Rattle.amoebot_state.specs.Known.{AreReadInOrder, is_wall_cell}
 use Rattle.amoebot_state.specs.Limits.{most_cells, most_nodes}
@@ -29,14 +29,14 @@ invariant_of-result g c =
     (ap (next_in g.D.Decider.verdict) c.held.view_is ∙ c.requires.next) (c.claim-found.ensures.told.1 c.if-found-ne0.true)
 
 pub cell_there-value-requires-clause-won : goal.cell_there-value-requires-clause-won
-cell_there-value-requires-clause-won g c =
+cell_there-value-requires-clause-won g c κs within =
     let r = c.held.inside.activation.room.value in
     let at_n = ap (λ (q : Room). number q.area c.args.cell) (sym c.deref-room.ensures) ∙ sym c.cell_number.ensures ∙ c.in-Some.is in
     its_value g.D.Decider.verdict g.W.Manner.way c.held.inside.activation.seat.me _ _ _ _ _ _ _ c.held.invariant.0 c.args.cell c.requires.plain c.held.invariant.1
     (ap (next_in g.D.Decider.verdict) c.held.view_is ∙ c.requires.next) c.claim-found.new.seat.me c.slot.result (c.claim-found.ensures.told.0 c.if-found-ne0.false) (c.slot.ensures r.area at_n c.requires.plain)
 
-pub is_wall-wall-requires : goal.is_wall-wall-requires
-is_wall-wall-requires g c =
+pub is_wall-wall-requires-clause-numbered : goal.is_wall-wall-requires-clause-numbered
+is_wall-wall-requires-clause-numbered g c κs within =
     let at_n = ap (λ (q : Room). number q.area c.args.cell) (sym c.deref-room.ensures) ∙ sym c.cell_number.ensures ∙ c.in-Some.is in
     let terms = ap (λ (t : Token _). t.view.terms) c.held.view_is ∙ c.requires.field.terms in
     let world = ap (λ (q : Config). q.area) c.held.invariant.0.world ∙ ap (λ o. (setup_at g.D.Decider.verdict o).world.area) terms in

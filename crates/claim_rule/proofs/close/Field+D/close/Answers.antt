@@ -66,4 +66,4 @@ returns-clause-right g c =
     let back = c.give_back-closed.ensures in
     let count = listed g.D.Decider.verdict c.args.self c.seats.inside.rest.me c.seats.inside.rest.table_id c.seats.inside.seats.items c.seats.invariant c.args.seats c.seats.view_is c.requires.field
     back.run c.requires.all _ _ c.gather_all-rest.ensures.1 _ _ back.ends in
-    field_ends_right g.D.Decider.verdict c.args.self.terms c.args.seats.seats c.apply_entries.new.world c.journal_of-journal.result back.run count c.requires.all (rest g c) (ends g c)
+    field_ends_right by_journal g.D.Decider.verdict c.args.self.terms c.args.seats.seats c.apply_entries.new.world c.journal_of-journal.result back.run count c.requires.all (rest g c) (ends g c)
