@@ -65,12 +65,11 @@ fn linger() {
 
 impl Gate for LateGate {
     fn claimed(&self, caller: u8, turn: u32) {
-        match (caller, turn) {
-            (0, 0) => self.wait(),
-            (1 | 2 | 3, LAST) => {
-                self.came.fetch_add(1, Ordering::SeqCst);
-            }
-            _ => {}
+        if caller == 0 && turn == 0 {
+            self.wait();
+        }
+        if caller != 0 && turn == LAST {
+            self.came.fetch_add(1, Ordering::SeqCst);
         }
     }
 }
