@@ -30,13 +30,7 @@ pub fn make_all<
     W,
     T: Turning<D, W>,
     F: Fn(u32, u16, T::Seat) -> (T::Seat, T::Answer) + Sync,
->(
-    rt: &R,
-    turning: &T,
-    make: &F,
-    lists: &Lists,
-    desks: &mut [Desk<T::Seat, T::Answer>],
-)
+>(rt: &R, turning: &T, make: &F, lists: &Lists, desks: &mut [Desk<T::Seat, T::Answer>])
     requires makes { MakesTurns D.verdict T.token T.told (T.field turning.now) (F.pre make.now) (F.post make.now) }
     requires few { length desks.old ≡ length lists.now.ids }
     requires lists { (T.field turning.now).terms.lists ≡ lists.now }

@@ -52,7 +52,11 @@ pub fn work<R: Threads + Wait + Sync, D: Decider, G: Gate>(
     let mut desks = seat_all(alloc, lists.callers(), lists.turns(), &mut seats)?;
     activate_all(rt, &field, lists, gate, desks.as_mut_slice());
     let turns = clear(&mut seats, desks, room);
-    copy_marks(&ByActivation { field: &field }, &mut marks, turns.as_slice());
+    copy_marks(
+        &ByActivation { field: &field },
+        &mut marks,
+        turns.as_slice(),
+    );
     let (world, journal) = field.close(seats);
     Ok(Worked {
         report: Report {

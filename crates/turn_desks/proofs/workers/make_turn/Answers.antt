@@ -20,7 +20,7 @@ next g c =
     }
 
 pub make-seat-requires : goal.make-seat-requires
-make-seat-requires g c κs within = c.requires.makes.may c.args.turn c.bot-bot.result c.in-Some.seat (next g c)
+make-seat-requires g c = c.requires.makes.may c.args.turn c.bot-bot.result c.in-Some.seat (next g c)
 
 pub returns : goal.returns
 returns g c =
