@@ -4,7 +4,7 @@ ghost use Rattle.std.specs.List.{All};
 ghost use Rattle.amoebot_state.specs.Limits.{most_bots};
 ghost use Rattle.amoebot_state.specs.Configs.{bot_at};
 ghost use Rattle.amoebot_state.specs.Refusals.{IsBotInRange};
-ghost use Rattle.turn_desks.specs.Turns.{AreTurnsOf};
+ghost use Rattle.turn_workers.specs.Turns.{AreTurnsOf};
 
 use activation::Gate;
 use amoebot_state::{Bot, Decider, World};
