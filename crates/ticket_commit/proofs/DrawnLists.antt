@@ -60,7 +60,7 @@ one_queued whole lists rest own queues new queue pops pushes same is =
     ∙ ap (λ xs. pairs_in rest ++ xs) (reverse-append (lists_in queues) (map drawn_pair queue.items ∷ []))
     ∙ sym (append_assoc (pairs_in rest) (map drawn_pair queue.items ∷ []) (reverse (lists_in queues)))
     ∙ ap (λ xs. xs ++ reverse (lists_in queues))
-        ((λ i. pairs_in rest ++ map drawn_pair (same i) ∷ []) ∙ sym (map-append (λ (v : Vec Drawn Global). map drawn_pair v.items) rest (own ∷ [])) ∙ sym (ap pairs_in pops))
+    ((λ i. pairs_in rest ++ map drawn_pair (same i) ∷ []) ∙ sym (map-append (λ (v : Vec Drawn Global). map drawn_pair v.items) rest (own ∷ [])) ∙ sym (ap pairs_in pops))
     ∙ is
 
 -- until all are

@@ -2,6 +2,5 @@ pub mod DrawnLists
 pub mod MergeSteps
 pub mod OwnMerges
 pub mod OwnLemmas
-pub mod MarkedTurns
 pub mod TicketEnds
 pub mod TicketReports

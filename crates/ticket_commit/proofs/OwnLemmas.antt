@@ -1,5 +1,5 @@
 -- The own list beside a seat: there is one at most; it is empty before the first turn; it goes out and comes back with its seat.
-use Rattle.std.proofs.Common.{◌≡◌, ℕ, ◌+◌, ◌-◌, ◌<◌, ◌≤◌, List, [], ◌∷◌, map, length, set, get_or, Vec, Global, vec_capacity, Option, Some, None, inl, inr, ap, sym, refl, subst, ◌∙◌, arith, length-set}
+use Rattle.std.proofs.Common.{◌≡◌, ℕ, ◌+◌, ◌-◌, ◌<◌, ◌≤◌, List, [], ◌∷◌, map, length, set, get_or, Vec, Global, vec_capacity, Some, None, inl, inr, ap, sym, refl, subst, ◌∙◌, arith, length-set}
 use Rattle.std.specs.Prelude.{slice_get}
 use Rattle.std.specs.List.{All}
 use Rattle.std.proofs.lemmas.Option.{none-some, same_Some, slice_get_within, slice_get_read, get_or_from_slice_get}

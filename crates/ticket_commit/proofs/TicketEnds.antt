@@ -1,10 +1,9 @@
 -- How a field ends on which commits draw their places: the merge of the own lists is the journal of the state that the callers have come to.
-use Rattle.std.proofs.Common.{◌≡◌, ℕ, zero, suc, ◌<◌, ◌≤◌, List, [], ◌∷◌, map, length, Vec, Global, Option, Some, ap, sym, refl, subst, ◌∙◌, arith}
+use Rattle.std.proofs.Common.{◌≡◌, ℕ, zero, suc, ◌<◌, ◌≤◌, List, [], ◌∷◌, map, length, Vec, Global, Some, ap, sym, refl, subst, ◌∙◌, arith}
 use Rattle.std.specs.Prelude.{slice_get, IsSome}
 use Rattle.std.specs.List.{All}
 use Rattle.std.proofs.lemmas.List.{length-map}
 use Rattle.std.proofs.lemmas.Option.{get_or_from_slice_get}
-use Rattle.amoebot_state.specs.declared.verdict.Entry.{Entry}
 use Rattle.amoebot_state.specs.declared.verdict.Verdict.{Verdict}
 use Rattle.amoebot_state.specs.Configs.{Config}
 use Rattle.amoebot_state.specs.Steps.{Run}
@@ -13,7 +12,7 @@ use Rattle.amoebot_state.proofs.Patched.{run_has_one_last}
 use Rattle.claim_core.specs.Turns.{Kept}
 use Rattle.claim_core.specs.Machine.{Setup, State}
 use Rattle.claim_core.specs.Merges.{own_of, IsMerge}
-use Rattle.claim_core.specs.Reached.{HasValues, entries_of, placed}
+use Rattle.claim_core.specs.Reached.{HasValues, entries_of}
 use Rattle.claim_core.specs.SerialRuns.{all_turns}
 use Rattle.claim_core.specs.Soundness.{IsSetup, Sound}
 use Rattle.claim_core.specs.Tickets.{ticket_after}
@@ -23,8 +22,7 @@ use Rattle.claim_core.proofs.Unfolding.{tickets_are_sound}
 use Rattle.claim_rule.specs.declared.views.Terms.{Terms}
 use Rattle.claim_rule.specs.Views.{setup_of_terms}
 use Rattle.claim_rule.specs.Manners.{by_ticket}
-use Rattle.claim_rule.specs.Tokens.{FieldOf, Token, record_in, number_in}
-use Rattle.claim_rule.specs.Seating.{SeatsOf, AreOf}
+use Rattle.claim_rule.specs.Seating.{SeatsOf}
 use Rattle.claim_rule.specs.Closing.{ClosesAs, LeavesAs}
 use Rattle.claim_rule.proofs.Closes.{some_there}
 use Rattle.ticket_commit.specs.declared.merging.Drawn.{Drawn}

@@ -38,7 +38,8 @@ pub fn work_tickets<R: Threads + Wait + Sync, D: Decider, G: Gate>(
     gate: &G,
 ) -> Result<TicketWorked, NoMemory>
     requires { All (All (λ id. IsSome (bot_at world id))) lists.now.ids }
-    ensures ticketed { IfOk result (λ worked. TicketReached (setup_of_terms D.verdict (field_terms decider.now world lists.now)) worked.report) }
+    ensures ticketed { IfOk result (λ worked.
+        TicketReached (setup_of_terms D.verdict (field_terms decider.now world lists.now)) worked.report) }
     ensures reached { IfOk result (λ worked. Reached (setup_of_terms D.verdict (field_terms decider.now world lists.now)) worked.report) }
     ensures good { IfOk result (λ worked. Good (D.verdict decider.now) world lists.now worked.report) }
     ensures turns { IfOk result (λ worked. AreTurnsOf worked.report.turns worked.turns) }
@@ -76,7 +77,8 @@ fn rest<D: Decider>(
     lists: &Lists,
 ) -> Result<TicketWorked, NoMemory>
     requires { length lists.now.ids ≡ 0 }
-    ensures ticketed { IfOk result (λ worked. TicketReached (setup_of_terms D.verdict (field_terms decider.now world lists.now)) worked.report) }
+    ensures ticketed { IfOk result (λ worked.
+        TicketReached (setup_of_terms D.verdict (field_terms decider.now world lists.now)) worked.report) }
     ensures reached { IfOk result (λ worked. Reached (setup_of_terms D.verdict (field_terms decider.now world lists.now)) worked.report) }
     ensures good { IfOk result (λ worked. Good (D.verdict decider.now) world lists.now worked.report) }
     ensures turns { IfOk result (λ worked. AreTurnsOf worked.report.turns worked.turns) }

@@ -1,4 +1,4 @@
-use Rattle.std.proofs.Common.{◌≡◌, ◌++◌, ℕ, List, Vec, Global, length, map, take, drop, IsSome, ap, sym, ◌∙◌, subst, arith}
+use Rattle.std.proofs.Common.{◌≡◌, ◌++◌, ℕ, List, Vec, Global, length, map, take, drop, ap, sym, ◌∙◌, subst}
 use Rattle.std.specs.List.{All}
 use Rattle.std.proofs.lemmas.List.{length-map}
 use Rattle.claim_core.specs.Good.{Good}
@@ -17,7 +17,7 @@ use Rattle.turn_desks.specs.Desks.{AreClear, AreTaken, AreAllMade, HaveMade, sea
 use Rattle.turn_desks.proofs.MadeTurns.{first_have, are_taken, all_turns, are_made, written, as_many}
 use Rattle.ticket_commit.proofs.TicketReports.{is_ticket_report, told_is}
 use Rattle.ticket_commit.proofs.working.work_tickets.Given.{Over}
-use Rattle.ticket_commit.proofs.working.work_tickets.Goals.{After-activate_all}
+use Rattle.ticket_commit.proofs.working.work_tickets.Goals.{After-activate_all, After-copy_marks}
 use Rattle.ticket_commit.proofs.working.work_tickets.Goals as goal
 
 -- src/working.rt
@@ -99,7 +99,7 @@ copy_marks-requires-clause-none g c κs within =
     c.in_ok-marks.ensures ∙ (λ i. no_marks ((c.callers-2.ensures.value ∙ sym same) i) ((c.turns.ensures ∙ sym (of_marks g at)) i))
 
 -- all turns are made, the seats are back, and the marks are copied
-made : (g : Over) (c : goal.After-copy_marks g) → AreAllMade c.in_ok-field.field c.clear-turns.new.seats c.copy_marks.new.marks (lists_told turn_itself c.clear-turns.result.items)
+made : (g : Over) (c : After-copy_marks g) → AreAllMade c.in_ok-field.field c.clear-turns.new.seats c.copy_marks.new.marks (lists_told turn_itself c.clear-turns.result.items)
 made g c =
     let at = (goal.at.close-world-requires-clause-all g c).After-activate_all in
     let answers = c.clear-turns.result.items in
@@ -110,7 +110,7 @@ made g c =
     (c.copy_marks.ensures ∙ (λ i. record { turns = (of_marks g at ∙ turns_are g at) i; marks = map marks_in (lists_told turn_itself (c.as_slice.ensures.value i)) }))
 
 pub close-world-requires-clause-all : goal.close-world-requires-clause-all
-close-world-requires-clause-all g c κs within = (made g (goal.at.close-world-requires-clause-all g c).After-copy_marks).there
+close-world-requires-clause-all g c κs within = (made g c).there
 
 -- the field is closed, and what is left is a report
 report : (g : Over) (c : goal.After-close-world g) → TicketReached (setup_of_terms g.D.Decider.verdict (field_terms c.args.decider.now c.args.world c.args.lists.now)) (record { world = c.close-world.result.0; journal = c.close-world.result.1; turns = c.copy_marks.new.marks })
