@@ -134,13 +134,34 @@ fn closed(
 #[test]
 fn entries_stand_by_the_places_that_were_drawn(rt: HostRuntime) -> Result<(), Fail> {
     let alloc = rt.alloc();
-    let bots = &[standing(2, 3, 0), standing(3, 3, 0), standing(6, 6, 0), standing(7, 6, 0)];
+    let bots = &[
+        standing(2, 3, 0),
+        standing(3, 3, 0),
+        standing(6, 6, 0),
+        standing(7, 6, 0),
+    ];
     let world = world_in(alloc, 10, 10, bots)?;
     let lists = lists_of(alloc, 2, &world, &[&[0, 2], &[1, 3]])?;
     let (field, seats) = ticket_field_of(alloc, world, &lists)?;
     let (last, journal) = closed(&rt, field, &lists, seats)?;
     are_entries(&rt, &journal, &[(1, 0, 1), (0, 0, 0), (0, 1, 2), (1, 1, 3)]);
-    let bots = &[standing(2, 3, 1), standing(3, 3, 1), standing(6, 6, 1), standing(7, 6, 1)];
+    let bots = &[
+        standing(2, 3, 1),
+        standing(3, 3, 1),
+        standing(6, 6, 1),
+        standing(7, 6, 1),
+    ];
     assert!(rt; last.same(&world_in(alloc, 10, 10, bots)?));
+    Ok(())
+}
+
+#[test]
+fn a_field_is_closed_before_its_first_turn(rt: HostRuntime) -> Result<(), Fail> {
+    let alloc = rt.alloc();
+    let world = world_in(alloc, 10, 10, &[standing(2, 3, 0)])?;
+    let lists = lists_of(alloc, 2, &world, &[&[0], &[0]])?;
+    let (field, seats) = ticket_field_of(alloc, world, &lists)?;
+    let (last, journal) = field.close(seats);
+    assert!(rt; journal.entries().is_empty() && last.same(journal.first()));
     Ok(())
 }
