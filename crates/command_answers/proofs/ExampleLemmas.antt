@@ -33,7 +33,6 @@ use Rattle.small_worlds.proofs.Rows.{is_area, one_id, IsThereIn, one_has_ended, 
 use Rattle.shipped_programs.specs.declared.shipped.Shipped.TheVariants.{Line}
 use Rattle.command_words.specs.declared.command.DocumentCommand.TheVariants.{Run, Interleave, Replay, Check, Measure, Renew, Tickets}
 use Rattle.command_words.specs.declared.command.Command.TheVariants.{Document}
-use Rattle.command_answers.specs.declared.answer.Telling.TheVariants as telling
 use Rattle.command_answers.specs.declared.status.Status.TheVariants as status
 use Rattle.command_answers.specs.Reads.{whole}
 use Rattle.command_answers.specs.Outcomes.{DocumentLists, DocumentRecord, JournalAgrees, JournalDiffers, in_plain, of_run, of_tickets, of_interleave, agreeing, differing, of_check, of_measure, renewing, renew_differing}

@@ -1,5 +1,5 @@
 -- What is prepared for workers, and the texts of their reports.
-use Rattle.std.proofs.Common.{◌≡◌, ◌≤◌, ◌*◌, ℕ, Bool, true, false, List, length, Some, Result, refl, ap, sym, subst, ◌∙◌, arith}
+use Rattle.std.proofs.Common.{◌≡◌, ◌≤◌, ◌*◌, ℕ, Bool, true, false, List, length, Some, Result, refl, ap, sym, subst, arith}
 use Rattle.std.specs.Prelude.{◌&&◌, IfOk, IsSome}
 use Rattle.std.proofs.lemmas.Bool.{leb-true}
 use Rattle.std.specs.List.{All}

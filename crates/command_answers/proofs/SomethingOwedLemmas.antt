@@ -1,5 +1,5 @@
 -- Something is owed.
-use Rattle.std.proofs.Common.{◌≡◌, ◌<◌, ◌≤◌, ◌*◌, ◌⊎◌, ℕ, Bool, List, [], length, map, codes, true, Option, Some, None, Result, Ok, Err, inl, inr, refl, ap, sym, subst, ◌∙◌, arith}
+use Rattle.std.proofs.Common.{◌≡◌, ◌≤◌, ◌*◌, ◌⊎◌, ℕ, Bool, List, [], length, codes, true, Option, Some, None, Result, Ok, Err, inl, inr, refl, ap, sym, subst, arith}
 use Rattle.std.specs.Prelude.{IsSome, IfSome, reverse}
 use Rattle.std.specs.List.{All}
 use Rattle.std.specs.Option.{option_or}
@@ -16,7 +16,7 @@ use Rattle.amoebot_state.proofs.Options.{there_is}
 use Rattle.model_ops.specs.Laws.{ActsKeepDeciderLaws}
 use Rattle.claim_core.specs.Turns.{AreLists, CallerLists}
 use Rattle.claim_core.specs.Good.{Good}
-use Rattle.claim_core.specs.Machine.{Setup, setup}
+use Rattle.claim_core.specs.Machine.{setup}
 use Rattle.claim_core.specs.Soundness.{IsSetup}
 use Rattle.claim_core.specs.Laws.{OneListIsSerial, ReachedIsGood, RoundsLeaveAReport}
 use Rattle.claim_core.specs.TicketLaws.{TicketReachedIsGood, TicketsLeaveAReport}

@@ -18,18 +18,12 @@ pub(crate) fn prepare_tickets(parts: Parts) -> Prepared
     ensures { IsTaskTo DocumentCommand.Tickets (contents parts) (Task.Run result) }
 {
     one_list_is_serial();
-    let Prepared {
-        runner,
-        world,
-        lists,
-        telling,
-        ..
-    } = prepare(parts);
+    let prepared = prepare(parts);
     Prepared {
-        runner,
-        world,
-        lists,
-        telling,
+        runner: prepared.runner,
+        world: prepared.world,
+        lists: prepared.lists,
+        telling: prepared.telling,
         maker: Maker::Tickets,
     }
 }
