@@ -68,7 +68,7 @@ pub static SHOWN: [(&str, &str); 3] = [
 ];
 
 /// Words that are no command.
-pub static NO_COMMANDS: [&[&str]; 61] = [
+pub static NO_COMMANDS: [&[&str]; 66] = [
     &[],
     &[""],
     &["Run"],
@@ -130,6 +130,11 @@ pub static NO_COMMANDS: [&[&str]; 61] = [
     &["elects"],
     &["elect", "erosion"],
     &["elect", "elect"],
+    &["Tickets"],
+    &["ticket"],
+    &["-tickets"],
+    &["tickets", "now"],
+    &["run", "tickets"],
 ];
 
 /// Steps of two callers by schedules.

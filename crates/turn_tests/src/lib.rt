@@ -10,6 +10,8 @@ mod fixtures;
 #[cfg(test)]
 mod gates;
 #[cfg(test)]
+mod holding;
+#[cfg(test)]
 mod journals;
 #[cfg(test)]
 mod machine;
