@@ -132,15 +132,19 @@ impl Gate for Yielding {
     }
 }
 
-/// By each word the document leaves right reports, without a gate and with one that lets other threads go first.
+/// The document leaves a right report by each word. Every fourth time the gate lets other threads go first.
 pub(crate) fn check_reports<R: Abort + Threads + Wait + Sync>(
     rt: &R,
     alloc: Global,
     document: &str,
+    time: u64,
 ) -> Result<(), Fail> {
     for word in ON_THREADS {
-        right_report(rt, alloc, word, document, &NoGate)?;
-        right_report(rt, alloc, word, document, &Yielding)?;
+        if time % 4 == 0 {
+            right_report(rt, alloc, word, document, &Yielding)?;
+        } else {
+            right_report(rt, alloc, word, document, &NoGate)?;
+        }
     }
     Ok(())
 }
@@ -150,8 +154,8 @@ pub(crate) fn check_reports<R: Abort + Threads + Wait + Sync>(
 fn reports_where_zones_meet_pass_the_checker_and_agree(rt: HostRuntime) -> Result<(), Fail> {
     for pieces in MEETINGS {
         let document = joined(rt.alloc(), pieces)?;
-        for _time in 0..10 {
-            check_reports(&rt, rt.alloc(), document.as_str())?;
+        for time in 0..20 {
+            check_reports(&rt, rt.alloc(), document.as_str(), time)?;
         }
     }
     Ok(())
