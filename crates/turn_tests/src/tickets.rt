@@ -1,6 +1,7 @@
 //! Turns whose commits draw their places, whole, on one thread.
 ghost use Rattle.std.specs.Prelude.{◌≡◌, ◌≤◌, map, is_some, length, slice_set, None, IfOk, IsSome, OnOk};
 ghost use Rattle.std.specs.List.{All};
+ghost use Rattle.amoebot_state.specs.Configs.{bot_at};
 ghost use Rattle.claim_rule.specs.Seating.{AreOf, IsFirst};
 ghost use Rattle.claim_rule.specs.Tokens.{IsOf, number_in};
 
@@ -12,6 +13,24 @@ use std::alloc::Global;
 use std::process::Abort;
 use std::test::Fail;
 use ticket_commit::{TicketField, TicketSeat, TicketSeats, TicketTurn, activate_ticket};
+
+/// A field over the world, with a seat for each caller.
+fn field_of<'d>(
+    alloc: Global,
+    world: World,
+    lists: &'d Lists,
+) -> Result<(TicketField<'d, Marker>, TicketSeats<Marker>), Fail>
+    requires some { 1 ≤ length lists.now.ids }
+    requires bots { All (All (λ id. IsSome (bot_at world id))) lists.now.ids }
+    ensures lists { IfOk result (λ made. made.0.terms.lists ≡ lists.now) }
+    ensures of { IfOk result (λ made. AreOf made.0 made.1) }
+    ensures all { IfOk result (λ made. All (λ seat. IsSome seat) made.1.seats) }
+{
+    match TicketField::make(alloc, &Marker, world, lists) {
+        Ok(made) => Ok(made),
+        Err(_) => Err(Fail::from("no field")),
+    }
+}
 
 /// The seat of the least number that is there, which is to be this caller's, before its first turn.
 fn seat_of<D: Decider>(
@@ -141,15 +160,11 @@ fn four_in(alloc: Global, value: u8) -> Result<World, Fail> {
 fn left(rt: &impl Abort, alloc: Global, has_turns: bool) -> Result<(World, Journal), Fail> {
     let world = four_in(alloc, 0)?;
     let lists = lists_of(alloc, 2, &world, &[&[0, 1], &[2, 3]])?;
-    match TicketField::make(alloc, &Marker, world, &lists) {
-        Ok((field, seats)) => {
-            if has_turns {
-                closed(rt, field, &lists, seats)
-            } else {
-                Ok(field.close(seats))
-            }
-        }
-        Err(_) => Err(Fail::from("no field")),
+    let (field, seats) = field_of(alloc, world, &lists)?;
+    if has_turns {
+        closed(rt, field, &lists, seats)
+    } else {
+        Ok(field.close(seats))
     }
 }
 
@@ -173,7 +188,7 @@ fn seats_given(seats: &mut TicketSeats<Marker>) -> u32 {
     let mut given = 0;
     for _call in 0..4 {
         if seats.take().is_some() {
-            given += 1;
+            given = given.saturating_add(1u32);
         }
     }
     given
@@ -183,9 +198,7 @@ fn seats_given(seats: &mut TicketSeats<Marker>) -> u32 {
 fn each_seat_is_given_once(rt: HostRuntime) -> Result<(), Fail> {
     let world = four_in(rt.alloc(), 0)?;
     let lists = lists_of(rt.alloc(), 2, &world, &[&[0, 1], &[2, 3]])?;
-    match TicketField::make(rt.alloc(), &Marker, world, &lists) {
-        Ok((_field, mut seats)) => assert_eq!(rt; seats_given(&mut seats), 2),
-        Err(_) => Err("no field")?,
-    }
+    let (_field, mut seats) = field_of(rt.alloc(), world, &lists)?;
+    assert_eq!(rt; seats_given(&mut seats), 2);
     Ok(())
 }
