@@ -240,13 +240,31 @@ fn each_word_writes_one_text_of_one_list(rt: HostRuntime) -> Result<(), Fail> {
     Ok(())
 }
 
-/// A hundred documents of two to sixteen lists.
+/// The document of the seed leaves right reports.
+fn check_seed<R: Abort + Threads + Wait + Sync>(
+    rt: &R,
+    alloc: Global,
+    seed: u64,
+    lists: u32,
+) -> Result<(), Fail> {
+    let document = generated(alloc, seed, lists)?;
+    check_reports(rt, alloc, document.as_str(), seed)
+}
+
+/// Fifty-six documents of two to nine lists.
 #[test]
-fn each_word_leaves_right_reports_of_several_lists(rt: HostRuntime) -> Result<(), Fail> {
-    for seed in 101..201u64 {
-        let lists = 2 + (seed % 15) as u32;
-        let document = generated(rt.alloc(), seed, lists)?;
-        check_reports(&rt, rt.alloc(), document.as_str())?;
+fn each_word_leaves_right_reports_of_some_lists(rt: HostRuntime) -> Result<(), Fail> {
+    for seed in 101..157u64 {
+        check_seed(&rt, rt.alloc(), seed, 2 + (seed % 8) as u32)?;
+    }
+    Ok(())
+}
+
+/// Forty-four documents of ten to sixteen lists.
+#[test]
+fn each_word_leaves_right_reports_of_many_lists(rt: HostRuntime) -> Result<(), Fail> {
+    for seed in 157..201u64 {
+        check_seed(&rt, rt.alloc(), seed, 10 + (seed % 7) as u32)?;
     }
     Ok(())
 }

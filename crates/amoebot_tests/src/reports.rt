@@ -7,7 +7,7 @@ use crate::pieces::ON_THREADS;
 use crate::tests::{check, joined, words};
 use action_eval::Runner;
 use activation::{Gate, NoGate};
-use amoebot_run::{Ended, Status, run, run_text};
+use amoebot_run::{Status, run, run_text};
 use claim_core::Report;
 use claim_tests::is_report;
 use outer_io::{SureSink, SureSource};
@@ -27,7 +27,25 @@ pub(crate) struct Replayed {
     pub(crate) whole: Vec<u8>,
 }
 
-/// Runs the document, whose last byte is LF, by a word, with this gate. Turns come with `run` alone, and tickets with `tickets` alone.
+/// Runs the document by a word, with this gate. Turns come with `run` alone, and tickets with `tickets` alone.
+fn report_by<R: Abort + Threads + Wait + Sync, G: Gate>(
+    rt: &R,
+    alloc: Global,
+    word: &str,
+    document: &str,
+    gate: &G,
+    out: &mut SureSink,
+) -> Result<Report, Fail> {
+    let words = words(alloc, &[word])?;
+    let mut input = SureSource::new(alloc, document.as_bytes())?;
+    let ended = run(rt, alloc, words.as_slice(), &mut input, out, gate);
+    assert_eq!(rt; ended.status, Status::Done);
+    assert_eq!(rt; ended.turns.is_some(), word == "run");
+    assert_eq!(rt; ended.tickets.is_some(), word == "tickets");
+    Ok(ended.report.ok_or("a report")?)
+}
+
+/// The same, with the text behind the document.
 fn run_by<R: Abort + Threads + Wait + Sync, G: Gate>(
     rt: &R,
     alloc: Global,
@@ -35,22 +53,8 @@ fn run_by<R: Abort + Threads + Wait + Sync, G: Gate>(
     document: &str,
     gate: &G,
 ) -> Result<Replayed, Fail> {
-    let words = words(alloc, &[word])?;
-    let mut input = SureSource::new(alloc, document.as_bytes())?;
     let mut out = SureSink::new(alloc, 4_000_000)?;
-    let ended = run(rt, alloc, words.as_slice(), &mut input, &mut out, gate);
-    let Ended {
-        status,
-        report,
-        turns,
-        tickets,
-    } = ended;
-    assert_eq!(rt; status, Status::Done);
-    assert_eq!(rt;
-        (turns.is_some(), tickets.is_some()),
-        (word == "run", word == "tickets")
-    );
-    let report = report.ok_or("a report")?;
+    let report = report_by(rt, alloc, word, document, gate, &mut out)?;
     let mut whole: Vec<u8> = Vec::new(alloc);
     whole.extend_from_slice(document.as_bytes())?;
     whole.extend_from_slice(out.bytes())?;
@@ -132,15 +136,19 @@ impl Gate for Yielding {
     }
 }
 
-/// By each word the document leaves right reports, without a gate and with one that lets other threads go first.
+/// The document leaves a right report by each word. Every fourth time the gate lets other threads go first.
 pub(crate) fn check_reports<R: Abort + Threads + Wait + Sync>(
     rt: &R,
     alloc: Global,
     document: &str,
+    time: u64,
 ) -> Result<(), Fail> {
     for word in ON_THREADS {
-        right_report(rt, alloc, word, document, &NoGate)?;
-        right_report(rt, alloc, word, document, &Yielding)?;
+        if time % 4 == 0 {
+            right_report(rt, alloc, word, document, &Yielding)?;
+        } else {
+            right_report(rt, alloc, word, document, &NoGate)?;
+        }
     }
     Ok(())
 }
@@ -150,8 +158,8 @@ pub(crate) fn check_reports<R: Abort + Threads + Wait + Sync>(
 fn reports_where_zones_meet_pass_the_checker_and_agree(rt: HostRuntime) -> Result<(), Fail> {
     for pieces in MEETINGS {
         let document = joined(rt.alloc(), pieces)?;
-        for _time in 0..10 {
-            check_reports(&rt, rt.alloc(), document.as_str())?;
+        for time in 0..20 {
+            check_reports(&rt, rt.alloc(), document.as_str(), time)?;
         }
     }
     Ok(())

@@ -1,6 +1,6 @@
 ghost use Rattle.std.specs.declared.option.Option.{Option};
 
-use crate::commands::{COMPARED_AND_CHECKED, INTERLEAVINGS, MEASURED, NO_COMMANDS, SHOWN};
+use crate::commands::{COMPARED_AND_CHECKED, INTERLEAVINGS, MEASURED, NO_COMMANDS, SHOWN, USAGE};
 use crate::failing::{is_unread, unread};
 use crate::faults::FAULTS;
 use crate::pieces::{Fault, Row};
@@ -264,12 +264,9 @@ impl Sink for FailingSink {
 
 #[test]
 fn judges_the_words_before_it_reads(rt: HostRuntime) -> Result<(), Fail> {
-    let usage =
-        "usage: run / interleave / replay / check / measure / show NAME / sample NUMBER / renew / rewind NUMBER / rounds / elect / \
-        tickets\n";
     for texts in &NO_COMMANDS {
         let mut input = unread(rt.alloc())?;
-        check_line(&rt, rt.alloc(), texts, &mut input, Status::Words, usage)?;
+        check_line(&rt, rt.alloc(), texts, &mut input, Status::Words, USAGE)?;
         assert!(rt; is_unread(&mut input));
     }
     Ok(())

@@ -22,4 +22,6 @@ mod reports;
 #[cfg(test)]
 mod runs;
 #[cfg(test)]
+mod tickets;
+#[cfg(test)]
 mod turns;

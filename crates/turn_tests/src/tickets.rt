@@ -1,22 +1,21 @@
-//! Turns whose commits draw their places, one after another on one thread.
-ghost use Rattle.std.specs.Prelude.{◌≡◌, ◌≤◌, length, map, is_some, slice_set, None, IfOk, IsSome, OnOk};
+//! Turns whose commits draw their places, whole, on one thread.
+ghost use Rattle.std.specs.Prelude.{◌≡◌, ◌≤◌, map, is_some, length, slice_set, None, IfOk, IsSome, OnOk};
 ghost use Rattle.std.specs.List.{All};
 ghost use Rattle.amoebot_state.specs.Configs.{bot_at};
 ghost use Rattle.claim_rule.specs.Seating.{AreOf, IsFirst};
 ghost use Rattle.claim_rule.specs.Tokens.{IsOf, number_in};
 
-use crate::fixtures::are_entries;
-use activation::NoGate;
-use amoebot_state::World;
+use crate::fixtures::{Counter, are_entries};
+use amoebot_state::{Decider, World};
 use claim_core::{Journal, Lists, Mark};
 use small_worlds::{Marker, lists_of, standing, world_in};
 use std::alloc::Global;
 use std::process::Abort;
 use std::test::Fail;
-use ticket_commit::{TicketField, TicketSeat, TicketSeats, activate_ticket};
+use ticket_commit::{TicketField, TicketSeat, TicketSeats, TicketTurn, activate_ticket};
 
 /// A field over the world, with a seat for each caller.
-fn ticket_field_of<'d>(
+fn field_of<'d>(
     alloc: Global,
     world: World,
     lists: &'d Lists,
@@ -34,11 +33,11 @@ fn ticket_field_of<'d>(
 }
 
 /// The seat of the least number that is there, which is to be this caller's, before its first turn.
-fn ticket_seat_of(
-    field: &TicketField<'_, Marker>,
-    seats: &mut TicketSeats<Marker>,
+fn seat_of<D: Decider>(
+    field: &TicketField<'_, D>,
+    seats: &mut TicketSeats<D>,
     caller: u8,
-) -> Result<TicketSeat<Marker>, Fail>
+) -> Result<TicketSeat<D>, Fail>
     requires { AreOf field.now seats.old }
     ensures rest { IfOk result (λ seat. AreOf field.now seats.new) }
     ensures seat { IfOk result (λ seat. IsOf field.now seat) }
@@ -56,24 +55,15 @@ fn ticket_seat_of(
     }
 }
 
-/// No seat is left.
-fn none_left(seats: &mut TicketSeats<Marker>) -> Result<(), Fail>
-    ensures { OnOk result (seats.new ≡ seats.old) }
-{
-    match seats.take() {
-        None => Ok(()),
-        Some(_) => Err(Fail::from("a seat is left")),
-    }
-}
-
-/// Makes the seat's next turn, which commits at this place.
-fn drawn(
+/// The seat's next turn, whole, which has this mark.
+fn marked<D: Decider>(
     rt: &impl Abort,
-    field: &TicketField<'_, Marker>,
+    field: &TicketField<'_, D>,
     lists: &Lists,
-    seat: TicketSeat<Marker>,
-    place: u32,
-) -> Result<TicketSeat<Marker>, Fail>
+    gate: &Counter,
+    seat: TicketSeat<D>,
+    mark: Mark,
+) -> Result<TicketSeat<D>, Fail>
     requires of { IsOf field.now seat }
     requires lists { field.now.terms.lists ≡ lists.now }
     ensures of { IfOk result (λ after. IsOf field.now after) }
@@ -84,14 +74,43 @@ fn drawn(
     if caller >= lists.callers() || turn >= lists.turns() {
         return Err(Fail::from("no turn is left"));
     }
-    let bot = lists.bot(caller, turn);
-    let (seat, answer) = activate_ticket(field, seat, &NoGate, turn, bot);
-    assert_eq!(rt; (answer.caller(), answer.turn()), (caller, turn));
-    assert_eq!(rt; answer.mark(), Mark::Done { place });
-    Ok(seat)
+    let (after, answer) = activate_ticket(field, seat, gate, turn, lists.bot(caller, turn));
+    has_answered(rt, &answer, caller, turn, mark);
+    Ok(after)
 }
 
-/// Both seats are taken, and no third; caller 1 makes a turn, then caller 0 two, and then caller 1 one; and the seats are given back.
+fn has_answered(rt: &impl Abort, answer: &TicketTurn, caller: u8, turn: u32, mark: Mark) {
+    assert_eq!(rt; (answer.caller(), answer.turn()), (caller, turn));
+    assert_eq!(rt; answer.mark(), mark);
+}
+
+/// Caller 1 makes a turn, then caller 0 makes two, and then caller 1 its second one. Each marks another amoebot, and comes to the gate.
+fn four_turns(
+    rt: &impl Abort,
+    field: &TicketField<'_, Marker>,
+    lists: &Lists,
+    zero: TicketSeat<Marker>,
+    one: TicketSeat<Marker>,
+) -> Result<(TicketSeat<Marker>, TicketSeat<Marker>), Fail>
+    requires zero { IsOf field.now zero }
+    requires one { IsOf field.now one }
+    requires lists { field.now.terms.lists ≡ lists.now }
+    ensures zero { IfOk result (λ after. IsOf field.now after.0 × (number_in after.0 ≡ number_in zero)) }
+    ensures one { IfOk result (λ after. IsOf field.now after.1 × (number_in after.1 ≡ number_in one)) }
+{
+    let gate = Counter::new();
+    let one = marked(rt, field, lists, &gate, one, Mark::Done { place: 0 })?;
+    let zero = marked(rt, field, lists, &gate, zero, Mark::Done { place: 1 })?;
+    let zero = marked(rt, field, lists, &gate, zero, Mark::Done { place: 2 })?;
+    let one = marked(rt, field, lists, &gate, one, Mark::Done { place: 3 })?;
+    assert_eq!(rt;
+        (zero.next_turn(), one.next_turn(), gate.calls()),
+        (2, 2, 4)
+    );
+    Ok((zero, one))
+}
+
+/// Both seats are taken, make their turns, and are given back, the second one first.
 fn with_both_seats(
     rt: &impl Abort,
     field: &TicketField<'_, Marker>,
@@ -103,16 +122,11 @@ fn with_both_seats(
     ensures of { OnOk result (AreOf field.now seats.new) }
     ensures there { OnOk result (map is_some seats.new.seats ≡ map is_some seats.old.seats) }
 {
-    let zero = ticket_seat_of(field, seats, 0)?;
-    let one = ticket_seat_of(field, seats, 1)?;
-    none_left(seats)?;
-    none_left(seats)?;
-    let one = drawn(rt, field, lists, one, 0)?;
-    let zero = drawn(rt, field, lists, zero, 1)?;
-    let zero = drawn(rt, field, lists, zero, 2)?;
-    let one = drawn(rt, field, lists, one, 3)?;
-    seats.give(one);
-    seats.give(zero);
+    let zero = seat_of(field, seats, 0)?;
+    let one = seat_of(field, seats, 1)?;
+    let (zero_after, one_after) = four_turns(rt, field, lists, zero, one)?;
+    seats.give(one_after);
+    seats.give(zero_after);
     Ok(())
 }
 
@@ -131,37 +145,60 @@ fn closed(
     Ok(field.close(seats))
 }
 
+/// The world of four amoebots that are far from each other, with these values.
+fn four_in(alloc: Global, value: u8) -> Result<World, Fail> {
+    let bots = [
+        standing(1, 1, value),
+        standing(1, 6, value),
+        standing(6, 1, value),
+        standing(6, 6, value),
+    ];
+    world_in(alloc, 8, 8, &bots)
+}
+
+/// What is left of four amoebots, two for each of two callers, once these have made all their turns, or none.
+fn left(rt: &impl Abort, alloc: Global, has_turns: bool) -> Result<(World, Journal), Fail> {
+    let world = four_in(alloc, 0)?;
+    let lists = lists_of(alloc, 2, &world, &[&[0, 1], &[2, 3]])?;
+    let (field, seats) = field_of(alloc, world, &lists)?;
+    if has_turns {
+        closed(rt, field, &lists, seats)
+    } else {
+        Ok(field.close(seats))
+    }
+}
+
 #[test]
 fn entries_stand_by_the_places_that_were_drawn(rt: HostRuntime) -> Result<(), Fail> {
-    let alloc = rt.alloc();
-    let bots = &[
-        standing(2, 3, 0),
-        standing(3, 3, 0),
-        standing(6, 6, 0),
-        standing(7, 6, 0),
-    ];
-    let world = world_in(alloc, 10, 10, bots)?;
-    let lists = lists_of(alloc, 2, &world, &[&[0, 2], &[1, 3]])?;
-    let (field, seats) = ticket_field_of(alloc, world, &lists)?;
-    let (last, journal) = closed(&rt, field, &lists, seats)?;
-    are_entries(&rt, &journal, &[(1, 0, 1), (0, 0, 0), (0, 1, 2), (1, 1, 3)]);
-    let bots = &[
-        standing(2, 3, 1),
-        standing(3, 3, 1),
-        standing(6, 6, 1),
-        standing(7, 6, 1),
-    ];
-    assert!(rt; last.same(&world_in(alloc, 10, 10, bots)?));
+    let (last, journal) = left(&rt, rt.alloc(), true)?;
+    are_entries(&rt, &journal, &[(1, 0, 2), (0, 0, 0), (0, 1, 1), (1, 1, 3)]);
+    assert!(rt; last.same(&four_in(rt.alloc(), 1)?));
     Ok(())
 }
 
 #[test]
 fn a_field_is_closed_before_its_first_turn(rt: HostRuntime) -> Result<(), Fail> {
-    let alloc = rt.alloc();
-    let world = world_in(alloc, 10, 10, &[standing(2, 3, 0)])?;
-    let lists = lists_of(alloc, 2, &world, &[&[0], &[0]])?;
-    let (field, seats) = ticket_field_of(alloc, world, &lists)?;
-    let (last, journal) = field.close(seats);
+    let (last, journal) = left(&rt, rt.alloc(), false)?;
     assert!(rt; journal.entries().is_empty() && last.same(journal.first()));
+    Ok(())
+}
+
+/// How many of four calls give a seat.
+fn seats_given(seats: &mut TicketSeats<Marker>) -> u32 {
+    let mut given = 0;
+    for _call in 0..4 {
+        if seats.take().is_some() {
+            given = given.saturating_add(1u32);
+        }
+    }
+    given
+}
+
+#[test]
+fn each_seat_is_given_once(rt: HostRuntime) -> Result<(), Fail> {
+    let world = four_in(rt.alloc(), 0)?;
+    let lists = lists_of(rt.alloc(), 2, &world, &[&[0, 1], &[2, 3]])?;
+    let (_field, mut seats) = field_of(rt.alloc(), world, &lists)?;
+    assert_eq!(rt; seats_given(&mut seats), 2);
     Ok(())
 }
