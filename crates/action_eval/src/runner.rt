@@ -20,7 +20,7 @@ use crate::names::Names;
 use crate::value::quick_value;
 use action_check::Checked;
 use action_tree::Action;
-use amoebot_state::{Change, Decider, Failure, Found, Moved, Verdict};
+use amoebot_state::{Change, Decider, Failure, Found, Moved, Patch, Verdict};
 use model_ops::Site;
 use std::marker::Model;
 
@@ -67,9 +67,10 @@ impl Decider for Runner {
     fn decide(&self, found: &Found) -> Verdict {
         let program = self.checked.program();
         let names = Names::new(program.vars());
-        let mut site = Site::new(found);
-        match actions_decide(program.actions(), program.guard(), &mut site, names) {
-            Ok(Some((action, moved))) => change_made(action, moved, &site),
+        // Borrowed where it was made: a working copy with a name of its own would be moved once more.
+        let site = &mut Site::new(found);
+        match actions_decide(program.actions(), program.guard(), site, names) {
+            Ok(Some((action, moved))) => change_made(action, moved, site),
             Ok(None) => Verdict::Idle,
             Err(failure) => Verdict::Failed(failure),
         }
@@ -130,9 +131,11 @@ fn change_made(action: u8, moved: Moved, site: &Site) -> Verdict
     requires { Reaches (shown_alone site.now.found) (own_id site.now) site.now.reached }
     ensures { result ≡ verdict.Change (record { action = action; moved = moved; patch = changes site.now }) }
 {
+    let mut patch = Patch::new();
+    site.push_changes(&mut patch);
     Verdict::Change(Change {
         action,
         moved,
-        patch: site.patch(),
+        patch,
     })
 }

@@ -6,6 +6,7 @@ use Rattle.std.proofs.lemmas.Bool.{false≢true}
 use Rattle.outer_io.specs.declared.writing.Sink.{Ghosts as SinkOf}
 use Rattle.claim_core.specs.declared.report.Report.{Report}
 use Rattle.shape_files.specs.Documents.{Contents}
+use Rattle.claim_rule.specs.declared.manner.ByJournal.{ByJournal}
 use Rattle.node_claims.specs.declared.turn.Turn.{Turn}
 use Rattle.shipped_programs.specs.declared.shipped.Shipped.{Shipped}
 use Rattle.command_words.specs.declared.command.Command.{Command}
@@ -29,18 +30,18 @@ use Rattle.amoebot_run.specs.Parts.{IsEndOfWriting, all, front}
 -- ---- how a call ended, from what was written
 
 pub ending_of : {K : Type 0} {sink : SinkOf K} {old new : K} {command : Option Command} {Reads : Read → Type 0} {Untouched : Type 0}
-    (read : Read) (s : Status) (report : Option Report) (turns : Option (List (List Turn))) (text : List ℕ) (ended : Ended) → Reads read → IsOwed command read s report text
+    (read : Read) (s : Status) (report : Option Report) (turns : Option (List (List (Turn ByJournal)))) (text : List ℕ) (ended : Ended) → Reads read → IsOwed command read s report text
     → IsEndOfWriting sink old new s report turns text ended
     → IsEnding command Reads (WroteAll sink old new) (WroteFront sink old new) Untouched ended.status ended.report
 ending_of read s report turns text _ reads owes (all writes) = written read s report text reads owes writes
 ending_of read s report turns text _ reads owes (front writes) = cut read s report text reads owes writes
 
 module _ {K : Type 0} (sink : SinkOf K) {old new : K} where
-  pub is_written : (s : Status) (report : Option Report) (turns : Option (List (List Turn))) (text bytes : List ℕ) (ended : Ended) → bytes ≡ text → WroteAll sink old new bytes → ended ≡ record { status = s; report = report; turns = turns }
+  pub is_written : (s : Status) (report : Option Report) (turns : Option (List (List (Turn ByJournal)))) (text bytes : List ℕ) (ended : Ended) → bytes ≡ text → WroteAll sink old new bytes → ended ≡ record { status = s; report = report; turns = turns }
       → IsEndOfWriting sink old new s report turns text ended
   is_written s report turns text bytes ended same writes e = subst (λ r. IsEndOfWriting sink old new s report turns text r) (sym e) (all (subst (WroteAll sink old new) same writes))
 
-  pub is_cut : (s : Status) (report : Option Report) (turns : Option (List (List Turn))) (text bytes : List ℕ) (ended : Ended) → bytes ≡ text → WroteFront sink old new bytes → ended ≡ record { status = status.WriteFault; report = None; turns = None }
+  pub is_cut : (s : Status) (report : Option Report) (turns : Option (List (List (Turn ByJournal)))) (text bytes : List ℕ) (ended : Ended) → bytes ≡ text → WroteFront sink old new bytes → ended ≡ record { status = status.WriteFault; report = None; turns = None }
       → IsEndOfWriting sink old new s report turns text ended
   is_cut s report turns text bytes ended same writes e = subst (λ r. IsEndOfWriting sink old new s report turns text r) (sym e) (front (subst (WroteFront sink old new) same writes))
 

@@ -9,6 +9,7 @@ use Rattle.claim_core.specs.Machine.{setup}
 use Rattle.amoebot_state.specs.Configs.{Config}
 use Rattle.action_tree.specs.Trees.{Program}
 use Rattle.action_meaning.specs.Verdicts.{verdict_shown}
+use Rattle.claim_rule.specs.declared.manner.ByJournal.{ByJournal}
 use Rattle.node_claims.specs.declared.turn.Turn.{Turn}
 use Rattle.turn_workers.specs.Turns.{AreTurnsOf}
 use Rattle.command_words.specs.declared.command.Command.{Command}
@@ -89,13 +90,13 @@ module _ {command : Option Command} {Reads : Read → Type 0} {Writes Cuts : Lis
 -- ---- the last part
 
 -- the text of an answer that tells the report was written
-pub told_by : {K : Type 0} {sink : SinkOf K} {old new : K} (t : Telling) (p : Program) (lists : CallerLists) (report : Report) (turns : List (List Turn)) (answer : Answer) (ended : Ended)
+pub told_by : {K : Type 0} {sink : SinkOf K} {old new : K} (t : Telling) (p : Program) (lists : CallerLists) (report : Report) (turns : List (List (Turn ByJournal))) (answer : Answer) (ended : Ended)
     → TellsReport t p lists report answer → IsEndOfWriting sink old new answer.status answer.report (Some turns) answer.text ended
     → IsEndedRun sink old new (Tells t p lists report) report turns ended
 told_by {sink = sink} {old = old} {new = new} t p lists report turns answer ended is writes =
     told answer.text ended is.text (subst (λ (z : Status × Option Report). IsEndOfWriting sink old new z.0 z.1 (Some turns) answer.text ended) (λ i. (is.done i, is.its_report i)) writes)
 
-pub untold_by : {K : Type 0} {sink : SinkOf K} {old new : K} (Text : List ℕ → Type 0) (report : Report) (turns : List (List Turn)) (ended : Ended)
+pub untold_by : {K : Type 0} {sink : SinkOf K} {old new : K} (Text : List ℕ → Type 0) (report : Report) (turns : List (List (Turn ByJournal))) (ended : Ended)
     → new ≡ old → ended ≡ record { status = status.NoMemory; report = None; turns = None } → IsEndedRun sink old new Text report turns ended
 untold_by {sink = sink} {old = old} {new = new} Text report turns ended same is = subst (IsEndedRun sink old new Text report turns) (sym is) (untold same)
 
@@ -106,7 +107,7 @@ pub from_first : (run : Prepared) (report : Report) → Good (verdict_shown run.
 from_first run report good = subst (λ (start : Config). Good (verdict_shown run.runner) start run.lists report) (sym good.first) good
 
 module _ {K : Type 0} (sink : SinkOf K) {Reads : Read → Type 0} (command : Option Command) (old mid new : K) (run : Prepared) (ready : IsReady command Reads (mid ≡ old) run)
-    (report : Report) (turns : List (List Turn)) (good : Good (verdict_shown run.runner) run.world run.lists report) (reached : Reached (setup (verdict_shown run.runner) run.world run.lists) report) (marked : AreTurnsOf report.turns turns) where
+    (report : Report) (turns : List (List (Turn ByJournal))) (good : Good (verdict_shown run.runner) run.world run.lists report) (reached : Reached (setup (verdict_shown run.runner) run.world run.lists) report) (marked : AreTurnsOf report.turns turns) where
   finished_at : (ended : Ended) → IsEndedRun sink old new (Tells run.telling run.runner run.lists report) report turns ended
       → IsEnding command Reads (WroteAll sink old new) (WroteFront sink old new) (new ≡ old) ended.status ended.report
   finished_at _ (told text ended tells writes) = ending_of ready.read status.Done (Some report) (Some turns) text ended ready.reads (ready.prepared.owed report text good reached tells) writes

@@ -3,6 +3,7 @@ use Rattle.std.proofs.Common.{◌≡◌, ℕ, List, Option, Some, None, refl, sy
 use Rattle.std.proofs.lemmas.Bool.{false≢true}
 use Rattle.claim_core.specs.declared.report.Report.{Report}
 use Rattle.outer_io.specs.declared.writing.Sink.{Ghosts as SinkOf}
+use Rattle.claim_rule.specs.declared.manner.ByJournal.{ByJournal}
 use Rattle.node_claims.specs.declared.turn.Turn.{Turn}
 use Rattle.command_words.specs.declared.command.Command.{Command}
 use Rattle.command_answers.specs.declared.status.Status.{Status}
@@ -17,7 +18,7 @@ pub no_turns : (c : Option Command) (s : Status) (report : Option Report) → (s
 no_turns c s report never = record { exactly = ((λ some. absurd (false≢true some)), λ both. absurd (never both.0 both.1)); marked = tt }
 
 -- a call has the turns of what it has written
-pub turns_of : {K : Type 0} {sink : SinkOf K} {old new : K} (c : Option Command) (s : Status) (report : Option Report) (turns : Option (List (List Turn))) (text : List ℕ) (ended : Ended)
+pub turns_of : {K : Type 0} {sink : SinkOf K} {old new : K} (c : Option Command) (s : Status) (report : Option Report) (turns : Option (List (List (Turn ByJournal)))) (text : List ℕ) (ended : Ended)
     → HasTurns c s report turns → IsEndOfWriting sink old new s report turns text ended → HasTurns c ended.status ended.report ended.turns
 turns_of c s report turns text _ has (all writes) = has
 turns_of c s report turns text _ has (front writes) = no_turns c status.WriteFault None (λ done worked. cc)

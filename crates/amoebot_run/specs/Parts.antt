@@ -4,6 +4,7 @@ use Rattle.std.specs.declared.option.Option.{Option}
 use Rattle.std.specs.declared.option.Option.TheVariants.{Some, None}
 use Rattle.outer_io.specs.declared.writing.Sink.{Ghosts as SinkOf}
 use Rattle.claim_core.specs.declared.report.Report.{Report}
+use Rattle.claim_rule.specs.declared.manner.ByJournal.{ByJournal}
 use Rattle.node_claims.specs.declared.turn.Turn.{Turn}
 use Rattle.command_words.specs.declared.command.Command.{Command}
 use Rattle.command_answers.specs.declared.answer.Prepared.{Prepared}
@@ -23,7 +24,7 @@ use Rattle.amoebot_run.specs.Working.{HasTurns}
 -- A text was written whole, and the call ends with this status, this report and these turns; or a write of it failed.
 pub data IsEndOfWriting
     {K : Type 0} (sink : SinkOf K) (old new : K)
-    (s : Status) (report : Option Report) (turns : Option (List (List Turn))) (text : List ℕ)
+    (s : Status) (report : Option Report) (turns : Option (List (List (Turn ByJournal)))) (text : List ℕ)
     : Ended → Type 0 where
   all : WroteAll sink old new text
       → IsEndOfWriting sink old new s report turns text (record { status = s; report = report; turns = turns })
@@ -52,7 +53,7 @@ HasEnded (begun.Run run) Ends = ⊥
 
 -- A text that tells the report was written, or a write of it failed; or it was out of memory and nothing was written.
 pub data IsEndedRun
-    {K : Type 0} (sink : SinkOf K) (old new : K) (Text : List ℕ → Type 0) (report : Report) (turns : List (List Turn))
+    {K : Type 0} (sink : SinkOf K) (old new : K) (Text : List ℕ → Type 0) (report : Report) (turns : List (List (Turn ByJournal)))
     : Ended → Type 0 where
   told : (text : List ℕ) (ended : Ended) → Text text
       → IsEndOfWriting sink old new status.Done (Some report) (Some turns) text ended

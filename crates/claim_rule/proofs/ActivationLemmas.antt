@@ -1,7 +1,8 @@
 -- The states of an activation: what each keeps after a step.
-use Rattle.std.proofs.Common.{◌≡◌, ◌≢◌, ℕ, ◌+◌, ◌*◌, ◌<◌, ◌≤◌, List, [], ◌∷◌, ◌++◌, map, reverse, length, Some, None, inl, inr, ap, sym, refl, subst, ◌∙◌, arith, lt-ltb, length-append, suc-ne-zero, Bool, false}
+use Rattle.std.proofs.Common.{◌≡◌, ◌≢◌, ℕ, ◌+◌, ◌*◌, ◌<◌, ◌≤◌, List, [], ◌∷◌, ◌++◌, map, reverse, length, Some, None, inl, inr, ap, sym, refl, subst, ◌∙◌, arith, lt-ltb, length-append, suc-ne-zero, Bool, true, false}
 use Rattle.std.specs.Prelude.{unwrap_or, slice_get, if◌then◌else◌}
 use Rattle.std.specs.List.{All}
+use Rattle.std.proofs.lemmas.Bool.{false≢true}
 use Rattle.std.proofs.lemmas.List.{reverse-append, reverse-reverse, length-map}
 use Rattle.std.proofs.lemmas.List.Elements.{All-nil, All-cons, All-head, All-tail}
 use Rattle.std.proofs.lemmas.Option.{none-some, same_Some}
@@ -23,6 +24,7 @@ use Rattle.claim_core.specs.declared.state.Caller.{Caller}
 use Rattle.claim_core.specs.declared.state.Phase.{Phase}
 use Rattle.claim_core.specs.declared.state.Phase.TheVariants.{Claim, Refusing, Looking, Taking, Committing, Releasing, Ended}
 use Rattle.claim_core.specs.declared.state.Look.TheVariants as look
+use Rattle.tri_lattice.specs.Extent.{Extent}
 use Rattle.claim_core.specs.Cells.{number}
 use Rattle.claim_core.specs.Good.{place_after}
 use Rattle.claim_core.specs.Limits.{most_turns}
@@ -39,7 +41,7 @@ use Rattle.claim_rule.specs.declared.views.Record.{Record}
 use Rattle.claim_rule.specs.Views.{Seated, like, own, goes_on}
 use Rattle.tri_lattice.specs.declared.node.Node.{Node}
 use Rattle.claim_rule.specs.declared.views.Note.{Note}
-use Rattle.claim_rule.specs.Stands.{first_plain, slot_of}
+use Rattle.claim_rule.specs.Manners.{CommitWay, by_journal, by_ticket, first_plain, has_slot, slot_of, noted_nodes}
 use Rattle.claim_rule.specs.Plays.{IsPlaced, IsKnown, IsOthers, IsToTry, IsToTryNode, IsToFree, Wins, IsRefusedAt, tried, IsToFreeNode, IsToRead, occ_in, but_first, but_last, mark_of_phase, marked_at, released_caller, with_node, about, bot_in}
 use Rattle.claim_rule.specs.Tokens.{AreOut, IsSeat, IsActivation, IsClaiming, IsStopped, HoldsWholeZone, HasMark, IsFreeing}
 
@@ -119,12 +121,48 @@ read_place (Committing change) place reads = absurd reads
 read_place Releasing place reads = absurd reads
 read_place Ended place reads = absurd reads
 
-module _ {D : Type 0} (verdict : D → Shown → Verdict) where
+-- a plain cell more is held, whose slot is out; and one less
+out_more : (way : CommitWay) (a : Extent) (s : Bool) (n : CellName) (x y : Cell) (held : Pairs) (out : List (ℕ × Slot)) → has_slot way n ≡ true → (s ≡ false → y ≡ x) → AreOut way a s held out → AreOut way a s ((n, x) ∷ held) ((slot_of way a n, slot.Cell y) ∷ out)
+out_more by_journal a s (name.Spot v) x y held out has same are = absurd (false≢true has)
+out_more by_journal a s (name.Body i) x y held out has same are = (y, out, refl, same, are)
+out_more by_ticket a s n x y held out has same are = (y, out, refl, same, are)
+
+out_less : (way : CommitWay) (a : Extent) (s : Bool) (n : CellName) (x : Cell) (held : Pairs) (out : List (ℕ × Slot)) → has_slot way n ≡ true → AreOut way a s ((n, x) ∷ held) out
+    → (y : Cell) × (more : List (ℕ × Slot)) × (out ≡ (slot_of way a n, slot.Cell y) ∷ more) × (s ≡ false → y ≡ x) × AreOut way a s held more
+out_less by_journal a s (name.Spot v) x held out has are = absurd (false≢true has)
+out_less by_journal a s (name.Body i) x held out has are = are
+out_less by_ticket a s n x held out has are = are
+
+out_none : (way : CommitWay) (a : Extent) (s : Bool) (out : List (ℕ × Slot)) → AreOut way a s [] out → out ≡ []
+out_none by_journal a s out are = are
+out_none by_ticket a s out are = are
+
+none_out : (way : CommitWay) (a : Extent) (s : Bool) (out : List (ℕ × Slot)) → out ≡ [] → AreOut way a s [] out
+none_out by_journal a s out are = are
+none_out by_ticket a s out are = are
+
+-- and no node more was noted
+noted_still : (way : CommitWay) (n : CellName) (x : Cell) (held : Pairs) → has_slot way n ≡ true → noted_nodes way ((n, x) ∷ held) ≡ noted_nodes way held
+noted_still by_journal (name.Spot v) x held has = absurd (false≢true has)
+noted_still by_journal (name.Body i) x held has = refl
+noted_still by_ticket n x held has = refl
+
+noted_none : (way : CommitWay) → noted_nodes way [] ≡ []
+noted_none by_journal = refl
+noted_none by_ticket = refl
+
+-- a plain cell has no number below the first one
+plain_number : (way : CommitWay) (c : Config) (n : CellName) (i : ℕ) → has_slot way n ≡ true → number c.area n ≡ Some i → first_plain way c ≤ i
+plain_number by_journal c (name.Spot v) i has e = absurd (false≢true has)
+plain_number by_journal c (name.Body j) i has e = (let f = same_Some (first_plain by_journal c + j) i e in omega (arith, f))
+plain_number by_ticket c n i has e = omega arith
+
+module _ {D : Type 0} (verdict : D → Shown → Verdict) (way : CommitWay) where
   -- the caller's next turn begins
   pub begun : (m : Seated D) (c u t b : ℕ) (bare : Config) (pairs : Pairs) (notes : List Note) → IsSeat verdict m c u bare → t ≡ (own m.0).caller.turn → t < (about verdict m.0).lists.turns → b ≡ bot_in verdict m.0 → pairs ≡ [] → notes ≡ []
-      → IsActivation verdict m c t b false bare pairs notes × IsClaiming verdict m t b pairs
+      → IsActivation verdict way m c t b false bare pairs notes × IsClaiming verdict m t b pairs
   begun m c u t b bare pairs notes is turn lt of none no_notes =
-      subst (λ (q : Pairs × List Note). IsActivation verdict m c t b false bare q.0 q.1 × IsClaiming verdict m t b q.0) (λ i. (sym none i, sym no_notes i)) (
+      subst (λ (q : Pairs × List Note). IsActivation verdict way m c t b false bare q.0 q.1 × IsClaiming verdict m t b q.0) (λ i. (sym none i, sym no_notes i)) (
         record {
           alone = is.alone;
           run = is.run;
@@ -138,9 +176,9 @@ module _ {D : Type 0} (verdict : D → Shown → Verdict) where
           placed = All-nil (λ (p : CellName × Cell). (i : ℕ) × IsPlaced g (cell_of p) i);
           won = is.won;
           note = is.note;
-          nodes = refl;
+          nodes = sym (noted_none way);
           few = All-nil (λ (w : Note). w.stamp ≤ most_turns);
-          out = is.out;
+          out = none_out way bare.area false m.1 is.out;
         },
         record {
           turn = sym turn;
@@ -156,7 +194,7 @@ module _ {D : Type 0} (verdict : D → Shown → Verdict) where
       amoebot : b ≡ bot g c t
       amoebot = of ∙ (λ i. bot g (is.number i) (sym turn i))
 
-  module _ (m : Seated D) (c t b : ℕ) (s : Bool) (bare : Config) (pairs : Pairs) (notes : List Note) (is : IsActivation verdict m c t b s bare pairs notes) where
+  module _ (m : Seated D) (c t b : ℕ) (s : Bool) (bare : Config) (pairs : Pairs) (notes : List Note) (is : IsActivation verdict way m c t b s bare pairs notes) where
     abbrev g : Setup
     g = about verdict m.0
 
@@ -171,8 +209,8 @@ module _ {D : Type 0} (verdict : D → Shown → Verdict) where
     HasPlace p = (i : ℕ) × IsPlaced g (cell_of p) i
 
     -- the seat with another record of the same caller, which holds these cells and has the slots of the bodies among them out
-    pub with_held : (u : Bool) (r : Record) (out : List (ℕ × Slot)) (cells : Pairs) (ws : List Note) → All (λ (w : Note). w.stamp ≤ most_turns) ws → r.number ≡ c → r.taken ≡ None → r.caller.held ≡ cells → All HasPlace cells → r.won ≡ ws → r.note ≡ None → map (λ (w : Note). w.node) ws ≡ nodes_in cells → AreOut u cells out
-        → IsActivation verdict (like m.0 (r ∷ []), out) c t b u bare cells ws
+    pub with_held : (u : Bool) (r : Record) (out : List (ℕ × Slot)) (cells : Pairs) (ws : List Note) → All (λ (w : Note). w.stamp ≤ most_turns) ws → r.number ≡ c → r.taken ≡ None → r.caller.held ≡ cells → All HasPlace cells → r.won ≡ ws → r.note ≡ None → map (λ (w : Note). w.node) ws ≡ noted_nodes way cells → AreOut way bare.area u cells out
+        → IsActivation verdict way (like m.0 (r ∷ []), out) c t b u bare cells ws
     with_held u r out cells ws few number taken held placed won note nodes slots = record {
       alone = refl;
       run = is.run;
@@ -192,86 +230,87 @@ module _ {D : Type 0} (verdict : D → Shown → Verdict) where
     }
 
     -- the seat after a step that leaves it what it has out of slots
-    pub stays : (m' : Seated D) (k : Caller) → m'.0 ≡ goes_on m.0 k → k.held ≡ (own m.0).caller.held → m'.1 ≡ m.1 → IsActivation verdict m' c t b s bare pairs notes
+    pub stays : (m' : Seated D) (k : Caller) → m'.0 ≡ goes_on m.0 k → k.held ≡ (own m.0).caller.held → m'.1 ≡ m.1 → IsActivation verdict way m' c t b s bare pairs notes
     stays m' k view held out =
-        subst (λ q. IsActivation verdict q c t b s bare pairs notes) (λ i. (sym view i, sym out i))
+        subst (λ q. IsActivation verdict way q c t b s bare pairs notes) (λ i. (sym view i, sym out i))
         (with_held s (record (own m.0) { caller = k }) m.1 pairs notes is.few is.number is.taken (held ∙ is.held) is.placed is.won is.note is.nodes is.out)
 
-    -- a body was won, and its value read
-    pub wins_body : (m' m2 : Seated D) (i : ℕ) (x v : Cell) → IsClaiming verdict m t b pairs → next_of g (bot_in verdict m.0) (own m.0).caller.held ≡ Some (name.Body i)
-        → m'.0 ≡ goes_on m.0 (caller_with_cell g (own m.0).number (own m.0).caller (name.Body i) x) → m'.1 ≡ (i, slot.Cell x) ∷ m.1 → IsKnown g (bot_in verdict m.0) ((name.Body i, x) ∷ (own m.0).caller.held)
-        → m'.1 ≡ (i, slot.Cell v) ∷ rest m'.1 → m2 ≡ m'
-        → IsActivation verdict m2 c t b s bare ((name.Body i, v) ∷ pairs) notes × IsClaiming verdict m2 t b ((name.Body i, v) ∷ pairs)
-    wins_body m' m2 i x v cl next view out known read stays = subst (λ q. IsActivation verdict q c t b s bare ((name.Body i, v) ∷ pairs) notes × IsClaiming verdict q t b ((name.Body i, v) ∷ pairs)) (sym now) (after, claiming)
-      where
-        k : Caller
-        k = caller_with_cell g (own m.0).number (own m.0).caller (name.Body i) x
+    -- a plain cell was won, and its value read
+    module _ (n : CellName) (has : has_slot way n ≡ true) (cl : IsClaiming verdict m t b pairs) (next : next_of g (bot_in verdict m.0) (own m.0).caller.held ≡ Some n) where
+      wins_it : (m' m2 : Seated D) (x v : Cell) → m'.0 ≡ goes_on m.0 (caller_with_cell g (own m.0).number (own m.0).caller n x) → m'.1 ≡ (slot_of way g.world.area n, slot.Cell x) ∷ m.1 → IsKnown g (bot_in verdict m.0) ((n, x) ∷ (own m.0).caller.held)
+          → m'.1 ≡ (slot_of way g.world.area n, slot.Cell v) ∷ rest m'.1 → m2 ≡ m'
+          → IsActivation verdict way m2 c t b s bare ((n, v) ∷ pairs) notes × IsClaiming verdict m2 t b ((n, v) ∷ pairs)
+      wins_it m' m2 x v view out known read stays = subst (λ q. IsActivation verdict way q c t b s bare ((n, v) ∷ pairs) notes × IsClaiming verdict q t b ((n, v) ∷ pairs)) (sym now) (after, claiming)
+        where
+          k : Caller
+          k = caller_with_cell g (own m.0).number (own m.0).caller n x
 
-        same : v ≡ x
-        same = ap first_value (sym read ∙ out)
+          same : v ≡ x
+          same = ap first_value (sym read ∙ out)
 
-        now : m2 ≡ (goes_on m.0 k, (i, slot.Cell x) ∷ m.1)
-        now = stays ∙ (λ j. (view j, out j))
+          now : m2 ≡ (goes_on m.0 k, (slot_of way g.world.area n, slot.Cell x) ∷ m.1)
+          now = stays ∙ (λ j. (view j, out j))
 
-        pairs_are : (name.Body i, x) ∷ (own m.0).caller.held ≡ (name.Body i, v) ∷ pairs
-        pairs_are = λ j. (name.Body i, sym same j) ∷ is.held j
+          pairs_are : (n, x) ∷ (own m.0).caller.held ≡ (n, v) ∷ pairs
+          pairs_are = λ j. (n, sym same j) ∷ is.held j
 
-        place : (j : ℕ) × IsPlaced g (name.Body i) j
-        place = cl.known.placed (name.Body i) (sym (next_same cl.turn) ∙ next)
+          place : (j : ℕ) × IsPlaced g n j
+          place = cl.known.placed n (sym (next_same cl.turn) ∙ next)
 
-        after : IsActivation verdict (goes_on m.0 k, (i, slot.Cell x) ∷ m.1) c t b s bare ((name.Body i, v) ∷ pairs) notes
-        after = with_held s (record (own m.0) { caller = k }) ((i, slot.Cell x) ∷ m.1) ((name.Body i, v) ∷ pairs) notes is.few is.number is.taken pairs_are (All-cons HasPlace (name.Body i, v) pairs place is.placed) is.won is.note is.nodes (x, m.1, refl, (λ e. sym same), is.out)
+          outs : AreOut way bare.area s ((n, v) ∷ pairs) ((slot_of way g.world.area n, slot.Cell x) ∷ m.1)
+          outs = subst (λ (q : Config). AreOut way bare.area s ((n, v) ∷ pairs) ((slot_of way q.area n, slot.Cell x) ∷ m.1)) is.world (out_more way bare.area s n v x pairs m.1 has (λ e. sym same) is.out)
 
-        claiming : IsClaiming verdict (goes_on m.0 k, (i, slot.Cell x) ∷ m.1) t b ((name.Body i, v) ∷ pairs)
-        claiming = record {
-          turn = cl.turn;
-          counted = cl.counted;
-          phase = λ j. after_win g (bot_same cl.turn j) (pairs_are j) (next_of g (bot_same cl.turn j) (pairs_are j));
-          known = subst (λ (q : ℕ × Pairs). IsKnown g q.0 q.1) (λ j. (bot_same cl.turn j, pairs_are j)) known;
-        }
+          after : IsActivation verdict way (goes_on m.0 k, (slot_of way g.world.area n, slot.Cell x) ∷ m.1) c t b s bare ((n, v) ∷ pairs) notes
+          after = with_held s (record (own m.0) { caller = k }) ((slot_of way g.world.area n, slot.Cell x) ∷ m.1) ((n, v) ∷ pairs) notes is.few is.number is.taken pairs_are (All-cons HasPlace (n, v) pairs place is.placed) is.won is.note
+              (is.nodes ∙ sym (noted_still way n v pairs has)) outs
 
-    -- so it is after a try that won it
-    pub wins_plain : (m' m2 : Seated D) (i : ℕ) (v : Cell) → IsClaiming verdict m t b pairs → next_of g (bot_in verdict m.0) (own m.0).caller.held ≡ Some (name.Body i) → Wins verdict m m' → m'.1 ≡ (i, slot.Cell v) ∷ rest m'.1 → m2 ≡ m'
-        → IsActivation verdict m2 c t b s bare ((name.Body i, v) ∷ pairs) notes × IsClaiming verdict m2 t b ((name.Body i, v) ∷ pairs)
-    wins_plain m' m2 i v cl next won read stays =
-        wins_body m' m2 i won.value v cl next
-        (won.now ∙ ap (λ n. goes_on m.0 (caller_with_cell g (own m.0).number (own m.0).caller n won.value)) is_i)
-        (won.out ∙ ap (λ n. (slot_of n, slot.Cell won.value) ∷ m.1) is_i)
-        (subst (λ n. IsKnown g (bot_in verdict m.0) ((n, won.value) ∷ (own m.0).caller.held)) is_i won.known) read stays
-      where
-        is_i : tried verdict m.0 ≡ name.Body i
-        is_i = ap (λ o. unwrap_or o (name.Body 0)) next
+          claiming : IsClaiming verdict (goes_on m.0 k, (slot_of way g.world.area n, slot.Cell x) ∷ m.1) t b ((n, v) ∷ pairs)
+          claiming = record {
+            turn = cl.turn;
+            counted = cl.counted;
+            phase = λ j. after_win g (bot_same cl.turn j) (pairs_are j) (next_of g (bot_same cl.turn j) (pairs_are j));
+            known = subst (λ (q : ℕ × Pairs). IsKnown g q.0 q.1) (λ j. (bot_same cl.turn j, pairs_are j)) known;
+          }
 
-    -- a node was won, with what its word said
-    pub wins_node : (m' : Seated D) (v : Node) (w : Note) → w.node ≡ v → w.stamp ≤ most_turns → IsClaiming verdict m t b pairs → next_of g (bot_in verdict m.0) (own m.0).caller.held ≡ Some (name.Spot v)
-        → m'.0 ≡ like m.0 (with_node g (own m.0) w ∷ []) → m'.1 ≡ m.1 → IsKnown g (bot_in verdict m.0) ((name.Spot w.node, cell.Spot w.occ) ∷ (own m.0).caller.held)
-        → IsActivation verdict m' c t b s bare ((name.Spot v, cell.Spot w.occ) ∷ pairs) (w ∷ notes) × IsClaiming verdict m' t b ((name.Spot v, cell.Spot w.occ) ∷ pairs)
-    wins_node m' v w of small cl next view out known = subst (λ q. IsActivation verdict q c t b s bare ((name.Spot v, cell.Spot w.occ) ∷ pairs) (w ∷ notes) × IsClaiming verdict q t b ((name.Spot v, cell.Spot w.occ) ∷ pairs)) (λ j. (sym view j, sym out j)) (after, claiming)
-      where
-        r : Record
-        r = with_node g (own m.0) w
+      is_tried : tried verdict m.0 ≡ n
+      is_tried = ap (λ o. unwrap_or o (name.Body 0)) next
 
-        pairs_are : (name.Spot w.node, cell.Spot w.occ) ∷ (own m.0).caller.held ≡ (name.Spot v, cell.Spot w.occ) ∷ pairs
-        pairs_are = λ j. (name.Spot (of j), cell.Spot w.occ) ∷ is.held j
+      -- so it is after a try that won it
+      pub wins_plain : (m' m2 : Seated D) (v : Cell) (k : ℕ) → Wins verdict way m m' → k ≡ slot_of way bare.area n → m'.1 ≡ (k, slot.Cell v) ∷ rest m'.1 → m2 ≡ m'
+          → IsActivation verdict way m2 c t b s bare ((n, v) ∷ pairs) notes × IsClaiming verdict m2 t b ((n, v) ∷ pairs)
+      wins_plain m' m2 v k won at_k read stays =
+          wins_it m' m2 won.value v
+          (won.now ∙ ap (λ q. goes_on m.0 (caller_with_cell g (own m.0).number (own m.0).caller q won.value)) is_tried)
+          (won.out ∙ ap (λ q. (slot_of way g.world.area q, slot.Cell won.value) ∷ m.1) is_tried)
+          (subst (λ q. IsKnown g (bot_in verdict m.0) ((q, won.value) ∷ (own m.0).caller.held)) is_tried won.known)
+          (read ∙ ap (λ q. (q, slot.Cell v) ∷ rest m'.1) (at_k ∙ ap (λ (q : Config). slot_of way q.area n) is.world)) stays
 
-        place : (j : ℕ) × IsPlaced g (name.Spot v) j
-        place = cl.known.placed (name.Spot v) (sym (next_same cl.turn) ∙ next)
+      -- its slot is out then
+      pub its_value : (m' : Seated D) (k : ℕ) → Wins verdict way m m' → k ≡ slot_of way bare.area n → (x : Cell) × (m'.1 ≡ (k, slot.Cell x) ∷ rest m'.1)
+      its_value m' k won at_k =
+          let here : k ≡ slot_of way g.world.area n = at_k ∙ ap (λ (q : Config). slot_of way q.area n) is.world in
+          let out : m'.1 ≡ (k, slot.Cell won.value) ∷ m.1 = won.out ∙ ap (λ q. (slot_of way g.world.area q, slot.Cell won.value) ∷ m.1) is_tried ∙ ap (λ q. (q, slot.Cell won.value) ∷ m.1) (sym here) in
+          (won.value, out ∙ ap (λ (more : List (ℕ × Slot)). (k, slot.Cell won.value) ∷ more) (sym (ap rest out)))
 
-        after : IsActivation verdict (like m.0 (r ∷ []), m.1) c t b s bare ((name.Spot v, cell.Spot w.occ) ∷ pairs) (w ∷ notes)
-        after = with_held s r m.1 ((name.Spot v, cell.Spot w.occ) ∷ pairs) (w ∷ notes) (All-cons (λ (u : Note). u.stamp ≤ most_turns) w notes small is.few) is.number is.taken pairs_are (All-cons HasPlace (name.Spot v, cell.Spot w.occ) pairs place is.placed) (λ j. w ∷ is.won j) refl (λ j. of j ∷ is.nodes j) is.out
-
-        claiming : IsClaiming verdict (like m.0 (r ∷ []), m.1) t b ((name.Spot v, cell.Spot w.occ) ∷ pairs)
-        claiming = record {
-          turn = cl.turn;
-          counted = cl.counted;
-          phase = λ j. after_win g (bot_same cl.turn j) (pairs_are j) (next_of g (bot_same cl.turn j) (pairs_are j));
-          known = subst (λ (q : ℕ × Pairs). IsKnown g q.0 q.1) (λ j. (bot_same cl.turn j, pairs_are j)) known;
-        }
+      -- the plain cell is tried next
+      pub to_try_plain : (j tag : ℕ) → number bare.area n ≡ Some j → tag ≡ own_tag g c t → IsToTry verdict way j tag m.0
+      to_try_plain j tag at_j mine =
+          let nx = sym (next_same cl.turn) ∙ next in
+          let place = cl.known.placed n nx in
+          let same : place.0 ≡ j = same_Some place.0 j (sym place.1.0 ∙ ap (λ (q : Config). number q.area n) (sym is.world) ∙ at_j) in
+          let placed : IsPlaced g n j = subst (IsPlaced g n) same place.1 in
+          record {
+            phase = cl.phase ∙ ap (after_win g b pairs) nx;
+            next = next ∙ ap (λ q. Some q) (sym is_tried);
+            placed = subst (λ q. IsPlaced g q j) (sym is_tried) placed;
+            plain = plain_number way g.world n j has placed.0;
+            tag = mine ∙ (λ k. own_tag g (sym is.number k) (sym cl.turn k));
+          }
 
     -- another caller's tag was found
     pub stops : (m' : Seated D) (n : CellName) (tag : ℕ) → IsClaiming verdict m t b pairs → next_of g (bot_in verdict m.0) (own m.0).caller.held ≡ Some n
-        → m'.0 ≡ like m.0 (record (own m.0) { caller = record (own m.0).caller { phase = Refusing n tag }; note = None } ∷ []) → m'.1 ≡ m.1 → IsOthers g (own m.0).number tag → IsActivation verdict m' c t b s bare pairs notes × IsStopped verdict m' c t b pairs
-    stops m' n tag cl next view out other = subst (λ (q : Seated D). IsActivation verdict q c t b s bare pairs notes × IsStopped verdict q c t b pairs) (λ j. (sym view j, sym out j)) (
+        → m'.0 ≡ like m.0 (record (own m.0) { caller = record (own m.0).caller { phase = Refusing n tag }; note = None } ∷ []) → m'.1 ≡ m.1 → IsOthers g (own m.0).number tag → IsActivation verdict way m' c t b s bare pairs notes × IsStopped verdict m' c t b pairs
+    stops m' n tag cl next view out other = subst (λ (q : Seated D). IsActivation verdict way q c t b s bare pairs notes × IsStopped verdict q c t b pairs) (λ j. (sym view j, sym out j)) (
       with_held s (record (own m.0) { caller = record (own m.0).caller { phase = Refusing n tag }; note = None }) m.1 pairs notes is.few is.number is.taken is.held is.placed is.won refl is.nodes is.out,
       record {
         turn = cl.turn;
@@ -285,34 +324,10 @@ module _ {D : Type 0} (verdict : D → Shown → Verdict) where
     )
 
     -- so it is after a try of a plain cell
-    pub stops_plain : (m' : Seated D) (i tag : ℕ) → IsClaiming verdict m t b pairs → next_of g (bot_in verdict m.0) (own m.0).caller.held ≡ Some (name.Body i) → IsRefusedAt verdict tag m m' → IsActivation verdict m' c t b s bare pairs notes × IsStopped verdict m' c t b pairs
-    stops_plain m' i tag cl next by =
-        stops m' (name.Body i) tag cl next
+    pub stops_plain : (m' : Seated D) (n : CellName) (tag : ℕ) → IsClaiming verdict m t b pairs → next_of g (bot_in verdict m.0) (own m.0).caller.held ≡ Some n → IsRefusedAt verdict tag m m' → IsActivation verdict way m' c t b s bare pairs notes × IsStopped verdict m' c t b pairs
+    stops_plain m' n tag cl next by =
+        stops m' n tag cl next
         (by.now ∙ (λ j. like m.0 (record (own m.0) { caller = record (own m.0).caller { phase = Refusing (ap (λ o. unwrap_or o (name.Body 0)) next j) tag }; note = is.note j } ∷ []))) by.out by.other
-
-    -- the body is tried next
-    pub to_try_body : (i j tag : ℕ) → IsClaiming verdict m t b pairs → next_of g (bot_in verdict m.0) (own m.0).caller.held ≡ Some (name.Body i) → number bare.area (name.Body i) ≡ Some j → tag ≡ own_tag g c t → IsToTry verdict j tag m.0
-    to_try_body i j tag cl next at_j mine =
-        let nx = sym (next_same cl.turn) ∙ next in
-        let is_i : tried verdict m.0 ≡ name.Body i = ap (λ o. unwrap_or o (name.Body 0)) next in
-        let place = cl.known.placed (name.Body i) nx in
-        let same : place.0 ≡ j = same_Some place.0 j (sym place.1.0 ∙ ap (λ (q : Config). number q.area (name.Body i)) (sym is.world) ∙ at_j) in
-        let placed : IsPlaced g (name.Body i) j = subst (IsPlaced g (name.Body i)) same place.1 in
-        record {
-          phase = cl.phase ∙ ap (after_win g b pairs) nx;
-          next = next ∙ ap (λ n. Some n) (sym is_i);
-          placed = subst (λ n. IsPlaced g n j) (sym is_i) placed;
-          plain = (let e = same_Some (first_plain g.world + i) j placed.0 in omega (arith, e));
-          tag = mine ∙ (λ k. own_tag g (sym is.number k) (sym cl.turn k));
-        }
-
-    -- the node is tried next
-    pub to_try : (v : Node) (i : ℕ) → IsClaiming verdict m t b pairs → next_of g (bot_in verdict m.0) (own m.0).caller.held ≡ Some (name.Spot v) → number bare.area (name.Spot v) ≡ Some i → (to : IsToTryNode verdict i m.0) × (to.node ≡ v)
-    to_try v i cl next at_i =
-        let nx = sym (next_same cl.turn) ∙ next in
-        let place = cl.known.placed (name.Spot v) nx in
-        let same : place.0 ≡ i = same_Some place.0 i (sym place.1.0 ∙ ap (λ (q : Config). number q.area (name.Spot v)) (sym is.world) ∙ at_i) in
-        (record { phase = cl.phase ∙ ap (after_win g b pairs) nx; node = v; next = next; placed = subst (IsPlaced g (name.Spot v)) same place.1 }, refl)
 
     abbrev marks_with : ℕ → List Mark
     marks_with place = (own m.0).caller.marks ++ mark_of_phase (own m.0).caller.phase place ∷ []
@@ -331,7 +346,7 @@ module _ {D : Type 0} (verdict : D → Shown → Verdict) where
     }
 
     pub marks : (m' : Seated D) (place : ℕ) → (own m.0).caller.turn ≡ t → length (own m.0).caller.marks ≡ t → IsToRead (own m.0).caller.phase → place ≤ most_turns → m'.0 ≡ goes_on m.0 (marked_at g (own m.0).caller place) → m'.1 ≡ m.1
-        → IsActivation verdict m' c t b s bare pairs notes × IsFreeing verdict m' t pairs place
+        → IsActivation verdict way m' c t b s bare pairs notes × IsFreeing verdict m' t pairs place
     marks m' place turn counted reads few view out = (
       stays m' (marked_at g (own m.0).caller place) view (frees-held g (own m.0).caller.turn (own m.0).caller.held _) out,
       subst (λ q. IsFreeing verdict q t pairs place) (λ i. (sym view i, sym out i)) (record { caller = now; marked = has_mark place counted reads few t }),
@@ -342,7 +357,7 @@ module _ {D : Type 0} (verdict : D → Shown → Verdict) where
 
     -- the turn of a whole zone has its mark
     pub looked : (m' : Seated D) (place after : ℕ) (told : Shown) → HoldsWholeZone verdict m t b pairs told after → IsToRead (own m.0).caller.phase → place ≤ most_turns → m'.0 ≡ goes_on m.0 (marked_at g (own m.0).caller place) → m'.1 ≡ m.1
-        → IsActivation verdict m' c t b s bare pairs notes × HoldsWholeZone verdict m' t b pairs told place
+        → IsActivation verdict way m' c t b s bare pairs notes × HoldsWholeZone verdict m' t b pairs told place
     looked m' place after told wh reads few view out = (
       stays m' (marked_at g (own m.0).caller place) view (frees-held g (own m.0).caller.turn (own m.0).caller.held _) out,
       subst (λ q. HoldsWholeZone verdict q t b pairs told place) (λ i. (sym view i, sym out i)) now,
@@ -402,15 +417,6 @@ module _ {D : Type 0} (verdict : D → Shown → Verdict) where
           phase = inl (cl.phase ∙ ap (after_win g b pairs) all ∙ ap (λ (s : Shown). phase_of_verdict (g.verdict s)) (sym told), cl.counted);
         }
 
-    -- there is room for one note more
-    pub few_notes : (x : CellName × Cell) → IsKnown g (bot_in verdict m.0) (x ∷ (own m.0).caller.held) → length notes < 19
-    few_notes x known =
-        let n : length notes ≡ length (nodes_in pairs) = sym (length-map notes (λ (w : Note). w.node)) ∙ ap length is.nodes in
-        let few = known.few in
-        let held = ap length is.held in
-        let le = nodes_few pairs in
-        omega (arith, n, few, held, le)
-
     -- the cell that was won last is freed
     module _ (n : CellName) (x : Cell) (held : Pairs) (are : pairs ≡ (n, x) ∷ held) (after : ℕ) (fr : IsFreeing verdict m t pairs after) where
       turn_is : (own m.0).caller.turn ≡ t
@@ -445,58 +451,30 @@ module _ {D : Type 0} (verdict : D → Shown → Verdict) where
             marked = record { mark = fr.marked.mark; counted = ap (λ (ms : List Mark). length ms) marks ∙ fr.marked.counted; there = ap (λ ms. slice_get ms t) marks ∙ fr.marked.there; stamp = fr.marked.stamp; few = fr.marked.few };
           }
 
-    -- a node
-    module _ (v : Node) (x : Cell) (held : Pairs) (are : pairs ≡ (name.Spot v, x) ∷ held) (w : Note) (ws : List Note) (notes_are : notes ≡ w ∷ ws) (after : ℕ) (fr : IsFreeing verdict m t pairs after) where
-      pub note_few : w.stamp ≤ most_turns
-      note_few = All-head (λ (u : Note). u.stamp ≤ most_turns) w ws (subst (All (λ (u : Note). u.stamp ≤ most_turns)) notes_are is.few)
+    -- a plain cell
+    module _ (n : CellName) (x : Cell) (held : Pairs) (are : pairs ≡ (n, x) ∷ held) (has : has_slot way n ≡ true) (after : ℕ) (fr : IsFreeing verdict m t pairs after) where
+      outs : (y : Cell) × (more : List (ℕ × Slot)) × (m.1 ≡ (slot_of way bare.area n, slot.Cell y) ∷ more) × (s ≡ false → y ≡ x) × AreOut way bare.area s held more
+      outs = out_less way bare.area s n x held m.1 has (subst (λ (ps : Pairs). AreOut way bare.area s ps m.1) are is.out)
 
-      pub to_free_node : (i stamp : ℕ) → number bare.area (name.Spot v) ≡ Some i → (occ_in x ≡ w.occ → stamp ≡ w.stamp) → (occ_in x ≢ w.occ → stamp ≡ after) → IsToFreeNode verdict i (node_word 0 (occ_in x) stamp) m.0
-      to_free_node i stamp at_n same changed = record {
-        phase = phase_is (name.Spot v) x held are after fr;
-        node = v;
-        value = x;
-        held = held;
-        last = is.held ∙ are;
-        placed = last_number (name.Spot v) x held are after fr i at_n;
-        note = w;
-        more = ws;
-        won = is.won ∙ notes_are;
-        stamp = stamp;
-        left = record {
-          same = same;
-          changed = λ ne. (fr.marked.mark, ap (slice_get (own m.0).caller.marks) (turn_is (name.Spot v) x held are after fr) ∙ fr.marked.there, changed ne ∙ fr.marked.stamp);
-        };
-        word = refl;
-      }
+      -- its slot is out
+      pub its_slot : (y : Cell) × (m.1 ≡ (slot_of way bare.area n, slot.Cell y) ∷ rest m.1) × (s ≡ false → y ≡ x)
+      its_slot = (outs.0, outs.2 ∙ ap (λ (more : List (ℕ × Slot)). (slot_of way bare.area n, slot.Cell outs.0) ∷ more) (sym (ap rest outs.2)), outs.3)
 
-      pub frees_node : (m2 : Seated D) → m2.0 ≡ like m.0 (record (own m.0) { caller = released_caller g (own m.0).caller; won = but_first (own m.0).won } ∷ []) → m2.1 ≡ m.1 → IsActivation verdict m2 c t b s bare held ws × IsFreeing verdict m2 t held after
-      frees_node m2 view out = subst (λ q. IsActivation verdict q c t b s bare held ws × IsFreeing verdict q t held after) (λ j. (sym view j, sym out j)) (
-        with_held s (record (own m.0) { caller = released_caller g (own m.0).caller; won = but_first (own m.0).won }) m.1 held ws (All-tail (λ (u : Note). u.stamp ≤ most_turns) w ws (subst (All (λ (u : Note). u.stamp ≤ most_turns)) notes_are is.few)) is.number is.taken
-            (ap (λ (j : Caller). j.held) (k_is (name.Spot v) x held are after fr) ∙ frees-held g t held (own m.0).caller.marks) (rest_placed (name.Spot v) x held are after fr)
-            (ap but_first (is.won ∙ notes_are)) is.note (λ j. tail_of ((ap (map (λ (u : Note). u.node)) (sym notes_are) ∙ is.nodes ∙ ap nodes_in are) j)) (subst (λ (ps : Pairs). AreOut s ps m.1) are is.out),
-        freeing_still (name.Spot v) x held are after fr (record (own m.0) { caller = released_caller g (own m.0).caller; won = but_first (own m.0).won }) m.1 refl,
-      )
-
-    -- a body
-    module _ (i : ℕ) (x : Cell) (held : Pairs) (are : pairs ≡ (name.Body i, x) ∷ held) (after : ℕ) (fr : IsFreeing verdict m t pairs after) where
-      outs : AreOut s ((name.Body i, x) ∷ held) m.1
-      outs = subst (λ (ps : Pairs). AreOut s ps m.1) are is.out
-
-      pub to_free : (m' : Seated D) (j : ℕ) → number bare.area (name.Body i) ≡ Some j → m' ≡ (m.0, (i, slot.Cell x) ∷ rest m.1) → IsToFree verdict j m'
+      pub to_free : (m' : Seated D) (j : ℕ) → number bare.area n ≡ Some j → m' ≡ (m.0, (slot_of way bare.area n, slot.Cell x) ∷ rest m.1) → IsToFree verdict way j m'
       to_free m' j at_n now =
-          let placed = last_number (name.Body i) x held are after fr j at_n in
-          subst (IsToFree verdict j) (sym now) (record {
-            phase = phase_is (name.Body i) x held are after fr;
+          let placed = last_number n x held are after fr j at_n in
+          subst (IsToFree verdict way j) (sym now) (record {
+            phase = phase_is n x held are after fr;
             inside = placed.1;
-            plain = (let e = same_Some (first_plain g.world + i) j placed.0 in omega (arith, e));
-            last = (name.Body i, x, held, rest m.1, is.held ∙ are, placed.0, refl);
+            plain = plain_number way g.world n j has placed.0;
+            last = (n, x, held, rest m.1, is.held ∙ are, placed.0, ap (λ (q : Config). (slot_of way q.area n, slot.Cell x) ∷ rest m.1) is.world);
           })
 
-      pub frees_body : (m' m2 : Seated D) → m' ≡ (m.0, (i, slot.Cell x) ∷ rest m.1) → m2.0 ≡ goes_on m'.0 (released_caller (about verdict m'.0) (own m'.0).caller) → m2.1 ≡ rest m'.1 → IsActivation verdict m2 c t b s bare held notes × IsFreeing verdict m2 t held after
-      frees_body m' m2 now view out = subst (λ q. IsActivation verdict q c t b s bare held notes × IsFreeing verdict q t held after) (sym is_now) (
+      pub frees_plain : (m' m2 : Seated D) → m' ≡ (m.0, (slot_of way bare.area n, slot.Cell x) ∷ rest m.1) → m2.0 ≡ goes_on m'.0 (released_caller (about verdict m'.0) (own m'.0).caller) → m2.1 ≡ rest m'.1 → IsActivation verdict way m2 c t b s bare held notes × IsFreeing verdict m2 t held after
+      frees_plain m' m2 now view out = subst (λ q. IsActivation verdict way q c t b s bare held notes × IsFreeing verdict q t held after) (sym is_now) (
         with_held s (record (own m.0) { caller = released_caller g (own m.0).caller }) (rest m.1) held notes is.few is.number is.taken
-            (ap (λ (j : Caller). j.held) (k_is (name.Body i) x held are after fr) ∙ frees-held g t held (own m.0).caller.marks) (rest_placed (name.Body i) x held are after fr) is.won is.note (is.nodes ∙ ap nodes_in are) (subst (AreOut s held) (sym (ap rest outs.2)) outs.4),
-        freeing_still (name.Body i) x held are after fr (record (own m.0) { caller = released_caller g (own m.0).caller }) (rest m.1) refl,
+            (ap (λ (j : Caller). j.held) (k_is n x held are after fr) ∙ frees-held g t held (own m.0).caller.marks) (rest_placed n x held are after fr) is.won is.note (is.nodes ∙ ap (noted_nodes way) are ∙ noted_still way n x held has) (subst (AreOut way bare.area s held) (sym (ap rest outs.2)) outs.4),
+        freeing_still n x held are after fr (record (own m.0) { caller = released_caller g (own m.0).caller }) (rest m.1) refl,
       )
         where
           is_now : m2 ≡ (goes_on m.0 (released_caller g (own m.0).caller), rest m.1)
@@ -515,8 +493,88 @@ module _ {D : Type 0} (verdict : D → Shown → Verdict) where
       counted = fr.marked.counted;
       rests = fr.caller ∙ ap (λ ps. freeing_caller g t ps (own m.0).caller.marks) none;
       taken = is.taken;
-      won = is.won ∙ none_of notes (is.nodes ∙ ap nodes_in none);
+      won = is.won ∙ none_of notes (is.nodes ∙ ap (noted_nodes way) none ∙ noted_none way);
       note = is.note;
-      out = subst (λ (ps : Pairs). AreOut s ps m.1) none is.out;
+      out = out_none way bare.area s m.1 (subst (λ (ps : Pairs). AreOut way bare.area s ps m.1) none is.out);
       world = is.world;
     }
+
+-- a node whose word was noted
+module _ {D : Type 0} (verdict : D → Shown → Verdict) (m : Seated D) (c t b : ℕ) (s : Bool) (bare : Config) (pairs : Pairs) (notes : List Note) (is : IsActivation verdict by_journal m c t b s bare pairs notes) where
+  abbrev h : Setup
+  h = about verdict m.0
+
+  -- a node was won, with what its word said
+  pub wins_node : (m' : Seated D) (v : Node) (w : Note) → w.node ≡ v → w.stamp ≤ most_turns → IsClaiming verdict m t b pairs → next_of h (bot_in verdict m.0) (own m.0).caller.held ≡ Some (name.Spot v)
+      → m'.0 ≡ like m.0 (with_node h (own m.0) w ∷ []) → m'.1 ≡ m.1 → IsKnown h (bot_in verdict m.0) ((name.Spot w.node, cell.Spot w.occ) ∷ (own m.0).caller.held)
+      → IsActivation verdict by_journal m' c t b s bare ((name.Spot v, cell.Spot w.occ) ∷ pairs) (w ∷ notes) × IsClaiming verdict m' t b ((name.Spot v, cell.Spot w.occ) ∷ pairs)
+  wins_node m' v w of small cl next view out known = subst (λ q. IsActivation verdict by_journal q c t b s bare ((name.Spot v, cell.Spot w.occ) ∷ pairs) (w ∷ notes) × IsClaiming verdict q t b ((name.Spot v, cell.Spot w.occ) ∷ pairs)) (λ j. (sym view j, sym out j)) (after, claiming)
+    where
+      r : Record
+      r = with_node h (own m.0) w
+
+      pairs_are : (name.Spot w.node, cell.Spot w.occ) ∷ (own m.0).caller.held ≡ (name.Spot v, cell.Spot w.occ) ∷ pairs
+      pairs_are = λ j. (name.Spot (of j), cell.Spot w.occ) ∷ is.held j
+
+      place : (j : ℕ) × IsPlaced h (name.Spot v) j
+      place = cl.known.placed (name.Spot v) (sym (next_same verdict by_journal m c t b s bare pairs notes is cl.turn) ∙ next)
+
+      after : IsActivation verdict by_journal (like m.0 (r ∷ []), m.1) c t b s bare ((name.Spot v, cell.Spot w.occ) ∷ pairs) (w ∷ notes)
+      after = with_held verdict by_journal m c t b s bare pairs notes is s r m.1 ((name.Spot v, cell.Spot w.occ) ∷ pairs) (w ∷ notes) (All-cons (λ (u : Note). u.stamp ≤ most_turns) w notes small is.few) is.number is.taken pairs_are (All-cons (HasPlace verdict by_journal m c t b s bare pairs notes is) (name.Spot v, cell.Spot w.occ) pairs place is.placed) (λ j. w ∷ is.won j) refl (λ j. of j ∷ is.nodes j) is.out
+
+      claiming : IsClaiming verdict (like m.0 (r ∷ []), m.1) t b ((name.Spot v, cell.Spot w.occ) ∷ pairs)
+      claiming = record {
+        turn = cl.turn;
+        counted = cl.counted;
+        phase = λ j. after_win h (bot_same verdict by_journal m c t b s bare pairs notes is cl.turn j) (pairs_are j) (next_of h (bot_same verdict by_journal m c t b s bare pairs notes is cl.turn j) (pairs_are j));
+        known = subst (λ (q : ℕ × Pairs). IsKnown h q.0 q.1) (λ j. (bot_same verdict by_journal m c t b s bare pairs notes is cl.turn j, pairs_are j)) known;
+      }
+
+  -- the node is tried next
+  pub to_try : (v : Node) (i : ℕ) → IsClaiming verdict m t b pairs → next_of h (bot_in verdict m.0) (own m.0).caller.held ≡ Some (name.Spot v) → number bare.area (name.Spot v) ≡ Some i → (to : IsToTryNode verdict i m.0) × (to.node ≡ v)
+  to_try v i cl next at_i =
+      let nx = sym (next_same verdict by_journal m c t b s bare pairs notes is cl.turn) ∙ next in
+      let place = cl.known.placed (name.Spot v) nx in
+      let same : place.0 ≡ i = same_Some place.0 i (sym place.1.0 ∙ ap (λ (q : Config). number q.area (name.Spot v)) (sym is.world) ∙ at_i) in
+      (record { phase = cl.phase ∙ ap (after_win h b pairs) nx; node = v; next = next; placed = subst (IsPlaced h (name.Spot v)) same place.1 }, refl)
+
+  -- there is room for one note more
+  pub few_notes : (x : CellName × Cell) → IsKnown h (bot_in verdict m.0) (x ∷ (own m.0).caller.held) → length notes < 19
+  few_notes x known =
+      let n : length notes ≡ length (nodes_in pairs) = sym (length-map notes (λ (w : Note). w.node)) ∙ ap length is.nodes in
+      let few = known.few in
+      let held = ap length is.held in
+      let le = nodes_few pairs in
+      omega (arith, n, few, held, le)
+
+  -- a node
+  module _ (v : Node) (x : Cell) (held : Pairs) (are : pairs ≡ (name.Spot v, x) ∷ held) (w : Note) (ws : List Note) (notes_are : notes ≡ w ∷ ws) (after : ℕ) (fr : IsFreeing verdict m t pairs after) where
+    pub note_few : w.stamp ≤ most_turns
+    note_few = All-head (λ (u : Note). u.stamp ≤ most_turns) w ws (subst (All (λ (u : Note). u.stamp ≤ most_turns)) notes_are is.few)
+
+    pub to_free_node : (i stamp : ℕ) → number bare.area (name.Spot v) ≡ Some i → (occ_in x ≡ w.occ → stamp ≡ w.stamp) → (occ_in x ≢ w.occ → stamp ≡ after) → IsToFreeNode verdict i (node_word 0 (occ_in x) stamp) m.0
+    to_free_node i stamp at_n same changed = record {
+      phase = phase_is verdict by_journal m c t b s bare pairs notes is (name.Spot v) x held are after fr;
+      node = v;
+      value = x;
+      held = held;
+      last = is.held ∙ are;
+      placed = last_number verdict by_journal m c t b s bare pairs notes is (name.Spot v) x held are after fr i at_n;
+      note = w;
+      more = ws;
+      won = is.won ∙ notes_are;
+      stamp = stamp;
+      left = record {
+        same = same;
+        changed = λ ne. (fr.marked.mark, ap (slice_get (own m.0).caller.marks) (turn_is verdict by_journal m c t b s bare pairs notes is (name.Spot v) x held are after fr) ∙ fr.marked.there, changed ne ∙ fr.marked.stamp);
+      };
+      word = refl;
+    }
+
+    pub frees_node : (m2 : Seated D) → m2.0 ≡ like m.0 (record (own m.0) { caller = released_caller h (own m.0).caller; won = but_first (own m.0).won } ∷ []) → m2.1 ≡ m.1 → IsActivation verdict by_journal m2 c t b s bare held ws × IsFreeing verdict m2 t held after
+    frees_node m2 view out = subst (λ q. IsActivation verdict by_journal q c t b s bare held ws × IsFreeing verdict q t held after) (λ j. (sym view j, sym out j)) (
+      with_held verdict by_journal m c t b s bare pairs notes is s (record (own m.0) { caller = released_caller h (own m.0).caller; won = but_first (own m.0).won }) m.1 held ws (All-tail (λ (u : Note). u.stamp ≤ most_turns) w ws (subst (All (λ (u : Note). u.stamp ≤ most_turns)) notes_are is.few)) is.number is.taken
+          (ap (λ (j : Caller). j.held) (k_is verdict by_journal m c t b s bare pairs notes is (name.Spot v) x held are after fr) ∙ frees-held h t held (own m.0).caller.marks) (rest_placed verdict by_journal m c t b s bare pairs notes is (name.Spot v) x held are after fr)
+          (ap but_first (is.won ∙ notes_are)) is.note (λ j. tail_of ((ap (map (λ (u : Note). u.node)) (sym notes_are) ∙ is.nodes ∙ ap nodes_in are) j)) (subst (λ (ps : Pairs). AreOut by_journal bare.area s ps m.1) are is.out),
+      freeing_still verdict by_journal m c t b s bare pairs notes is (name.Spot v) x held are after fr (record (own m.0) { caller = released_caller h (own m.0).caller; won = but_first (own m.0).won }) m.1 refl,
+    )

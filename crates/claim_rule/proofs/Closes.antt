@@ -28,10 +28,11 @@ use Rattle.claim_rule.specs.declared.views.Slot.TheVariants as slot
 use Rattle.claim_rule.specs.declared.views.Record.{Record}
 use Rattle.claim_rule.specs.declared.views.Terms.{Terms}
 use Rattle.claim_rule.specs.Views.{Content, Seated, view_of, setup_of_terms}
+use Rattle.claim_rule.specs.Manners.{CommitWay, by_journal}
 use Rattle.claim_rule.specs.Stands.{journal_slot, IsCoreJournal, HasTaken, IsRecord, Stands, KeepsRule}
 use Rattle.claim_rule.specs.Tokens.{FieldOf, Token, number_in, record_in, doing}
 use Rattle.claim_rule.specs.Seating.{SeatsOf, AreOf, AreSeats}
-use Rattle.claim_rule.specs.Closing.{ClosesAs, HoldNothing}
+use Rattle.claim_rule.specs.Closing.{ClosesAs, LeavesAs, HoldNothing}
 use Rattle.claim_rule.specs.Internal.{HaveAll}
 
 -- the entries after the one whose patch was applied lead on to the same last world
@@ -60,7 +61,7 @@ module _ {D : Type 0} (verdict : D → Shown → Verdict) (z : Terms D) (ok : Is
   abbrev g : Setup
   g = setup_of_terms verdict z
 
-  module _ (s : Content D) (steps : List ℕ) (st : Stands verdict z s (after g steps)) (id : ℕ) (rs : List Record) (mine : get_elem? s.views id ≡ home.some (view_of z rs))
+  module _ (s : Content D) (steps : List ℕ) (st : Stands verdict z by_journal s (after g steps)) (id : ℕ) (rs : List Record) (mine : get_elem? s.views id ≡ home.some (view_of z rs))
       (seats : List (Option (Token D))) (count : length seats ≡ length z.lists.ids) (full : All (λ o. IsSome o) seats)
       (number : (c : ℕ) (t : Token D) → slice_get seats c ≡ Some (Some t) → number_in t ≡ c) (have : HaveAll seats rs) where
     abbrev core : State
@@ -94,7 +95,7 @@ module _ {D : Type 0} (verdict : D → Shown → Verdict) (z : Terms D) (ok : Is
       runs : (j : Kept) → get_elem? xs (journal_slot z.world) ≡ home.some (slot.Journal j) → (last : Config) × Run g.verdict g.world j.entries last
       runs j e = let sound = always g ok steps in (sound.last, subst (λ es. Run g.verdict g.world es sound.last) (sym (its_journal j e).entries) sound.run)
 
-      closed : (j : Kept) (world : Config) → get_elem? xs (journal_slot z.world) ≡ home.some (slot.Journal j) → Run g.verdict g.world j.entries world → ClosesAs verdict z seats world j
+      closed : (j : Kept) (world : Config) → get_elem? xs (journal_slot z.world) ≡ home.some (slot.Journal j) → Run g.verdict g.world j.entries world → ClosesAs by_journal verdict z seats world j
       closed j world e run =
           let sound = always g ok steps in
           let is = its_journal j e in
@@ -112,8 +113,26 @@ module _ {D : Type 0} (verdict : D → Shown → Verdict) (f : FieldOf D) (rest 
   pub seats_of : (c : ℕ) (t : Token D) → slice_get items c ≡ Some (Some t) → (t.table ≡ f.table) × (t.view.terms ≡ Some f.terms)
   seats_of c t e = let is = are.each c t e in (is.0 ∙ ap (λ (u : SeatsOf D). u.table) s_is ∙ of.table, is.1 ∙ ap (λ (y : Terms D). Some y) same_terms)
 
+  same_items : items ≡ s.seats
+  same_items = ap (λ (t : SeatsOf D). t.seats) s_is
+
+  -- the seats that are gathered hold nothing,
+  pub rest_nothing : All (λ o. IsSome o) s.seats → (rs : List Record) → HaveAll items rs → HoldNothing s.seats
+  rest_nothing full rs have = subst (λ (os : List (Option (Token D))). HoldNothing os) same_items (λ c d lt.
+      let t = some_there items c lt (subst (λ (os : List (Option (Token D))). All (λ o. IsSome o) os) (sym same_items) full) in
+      subst (λ o. IfSome o (λ token. (doing token).held ≡ [])) (sym (get_or_from_slice_get items c (Some t.0) d t.1)) (have c t.0 t.1).3)
+
+  -- and, by either way, steps lead to what they know
+  pub leaves : (way : CommitWay) (id : ℕ) (m : Seated D) → (rs : List Record) × (m ≡ (view_of f.terms rs, [])) × HaveAll items rs → (words : List ℕ) (xs : List Slot) → Final (Seen (KeepsRule verdict f.terms way) id m.0) words xs → LeavesAs way verdict f.terms s.seats
+  leaves way id m gathered words xs end = subst (λ os. LeavesAs way verdict f.terms os) same_items (record {
+    steps = end.1.0.0;
+    callers = λ c t e.
+        let there = gathered.2 c t e in
+        ((are.each c t e).2, end.1.0.1.views.each id there.0 (record_in t) (view_of f.terms gathered.0, (end.1.1 ∙ ap (λ (k : Seated D). home.some k.0) gathered.1), there.1));
+  })
+
   module _ (ok : IsSetup (setup_of_terms verdict f.terms)) (full : All (λ o. IsSome o) s.seats) (id : ℕ) (m : Seated D) (gathered : (rs : List Record) × (m ≡ (view_of f.terms rs, [])) × HaveAll items rs)
-      (words : List ℕ) (xs : List Slot) (end : Final (Seen (KeepsRule verdict f.terms) id m.0) words xs) where
+      (words : List ℕ) (xs : List Slot) (end : Final (Seen (KeepsRule verdict f.terms by_journal) id m.0) words xs) where
     mine : get_elem? end.0.views id ≡ home.some (view_of f.terms gathered.0)
     mine = end.1.1 ∙ ap (λ (k : Seated D). home.some k.0) gathered.1
 
@@ -121,7 +140,7 @@ module _ {D : Type 0} (verdict : D → Shown → Verdict) (f : FieldOf D) (rest 
     count = are.count ∙ ap (λ (y : Terms D). length y.lists.ids) same_terms
 
     items_are : items ≡ s.seats
-    items_are = ap (λ (t : SeatsOf D). t.seats) s_is
+    items_are = same_items
 
     all_there : All (λ (o : Option (Token D)). IsSome o) items
     all_there = subst (λ (os : List (Option (Token D))). All (λ o. IsSome o) os) (sym items_are) full
@@ -145,12 +164,10 @@ module _ {D : Type 0} (verdict : D → Shown → Verdict) (f : FieldOf D) (rest 
 
     -- they hold nothing,
     pub rests : HoldNothing s.seats
-    rests = subst (λ (os : List (Option (Token D))). HoldNothing os) items_are (λ c d lt.
-        let t = some_there items c lt all_there in
-        subst (λ o. IfSome o (λ token. (doing token).held ≡ [])) (sym (get_or_from_slice_get items c (Some t.0) d t.1)) (gathered.2 c t.0 t.1).3)
+    rests = rest_nothing full gathered.0 gathered.2
 
     -- and with its last world the field has ended as it does
-    pub closes : (j : Kept) (world : Config) → get_elem? xs (journal_slot f.terms.world) ≡ home.some (slot.Journal j) → Run (verdict f.terms.decider) f.terms.world j.entries world → ClosesAs verdict f.terms s.seats world j
+    pub closes : (j : Kept) (world : Config) → get_elem? xs (journal_slot f.terms.world) ≡ home.some (slot.Journal j) → Run (verdict f.terms.decider) f.terms.world j.entries world → ClosesAs by_journal verdict f.terms s.seats world j
     closes j world e run =
-        subst (λ os. ClosesAs verdict f.terms os world j) items_are
+        subst (λ os. ClosesAs by_journal verdict f.terms os world j) items_are
         (closed verdict f.terms ok end.0 end.1.0.0 end.1.0.1 id gathered.0 mine items count all_there number gathered.2 xs end.4 j world e run)

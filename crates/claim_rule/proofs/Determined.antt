@@ -1,11 +1,11 @@
 -- Words, values at home and views stand for at most one state.
-use Rattle.std.proofs.Common.{◌≡◌, ◌≢◌, ℕ, ◌+◌, ◌<◌, ◌≤◌, List, [], ◌∷◌, length, drop, map, Option, Some, None, inl, inr, ap, sym, refl, subst, ◌∙◌, arith, eq-eqb, ne_eqb}
-use Rattle.std.specs.Prelude.{slice_get, slice_index, is_some, if◌then◌else◌}
+use Rattle.std.proofs.Common.{◌≡◌, ℕ, ◌<◌, List, length, map, Option, Some, None, inl, inr, ap, sym, refl, subst, ◌∙◌, arith}
+use Rattle.std.specs.Prelude.{slice_get, slice_index, is_some}
 use Rattle.std.specs.List.{All}
-use Rattle.std.proofs.lemmas.Bool.{cases_eq, cases_lt, false≢true}
+use Rattle.std.proofs.lemmas.Bool.{cases_lt, false≢true}
 use Rattle.std.proofs.lemmas.List.{ext_get_or}
-use Rattle.std.proofs.lemmas.List.Elements.{All-head, All-tail, All-weaker}
-use Rattle.std.proofs.lemmas.Option.{none-some, same_Some, slice_get_within}
+use Rattle.std.proofs.lemmas.List.Elements.{All-weaker}
+use Rattle.std.proofs.lemmas.Option.{none-some, slice_get_within}
 use Rattle.amoebot_state.specs.declared.verdict.Entry.{Entry}
 use Rattle.amoebot_state.specs.declared.verdict.Verdict.{Verdict}
 use Rattle.amoebot_state.specs.Steps.{Run}
@@ -14,57 +14,21 @@ use Rattle.amoebot_state.proofs.Patched.{run_has_one_last}
 use Rattle.claim_core.specs.Turns.{Kept}
 use Rattle.claim_core.specs.Cells.{values_of, cells}
 use Rattle.claim_core.specs.Good.{IsListed}
-use Rattle.claim_core.specs.Machine.{Setup, State, after}
+use Rattle.claim_core.specs.Machine.{Setup, State}
 use Rattle.claim_core.specs.Reached.{entries_of}
 use Rattle.claim_core.specs.Soundness.{IsSetup, Sound}
+use Rattle.claim_core.proofs.OwnEntries.{same_entries}
 use Rattle.claim_core.proofs.Places.{same_by_get}
-use Rattle.claim_core.proofs.Sounds.{always}
 use Rattle.claim_rule.specs.declared.views.Record.{Record}
 use Rattle.claim_rule.specs.declared.views.Terms.{Terms}
 use Rattle.claim_rule.specs.declared.views.View.{View}
 use Rattle.claim_rule.specs.Words.{word_tag}
 use Rattle.claim_rule.specs.Views.{Content, setup_of_terms}
-use Rattle.claim_rule.specs.Stands.{cell_tag, first_plain, HasTaken, HasRecord, Stands}
+use Rattle.claim_rule.specs.Manners.{CommitWay, after_by, first_plain}
+use Rattle.claim_rule.specs.Stands.{cell_tag, HasTaken, HasRecord, Stands}
 use Rattle.claim_rule.specs.Laws.{StateIsDetermined}
 use Rattle.claim_rule.proofs.NextsLemmas.{tags_count}
-
--- the entries of a caller where the first entry is its own, and where it is not
-own_first : (c p : ℕ) (e : Entry) (es : List Entry) → e.caller ≡ c → entries_of c p (e ∷ es) ≡ (p, e) ∷ entries_of c (p + 1) es
-own_first c p e es is = ap (λ b. if b then (p, e) ∷ entries_of c (p + 1) es else entries_of c (p + 1) es) (eq-eqb e.caller c is)
-
-other_first : (c p : ℕ) (e : Entry) (es : List Entry) → e.caller ≢ c → entries_of c p (e ∷ es) ≡ entries_of c (p + 1) es
-other_first c p e es not = ap (λ b. if b then (p, e) ∷ entries_of c (p + 1) es else entries_of c (p + 1) es) (ne_eqb e.caller c not)
-
--- no entry has a lower place than the first
-not_before : (c p q : ℕ) (e : Entry) (es : List Entry) → slice_get (entries_of c p es) 0 ≡ Some (q, e) → p ≤ q
-not_before c p q e [] at = absurd (none-some (q, e) at)
-not_before c p q e (x ∷ es) at = elim (cases_eq x.caller c) [
-  | inl is ↦ let same : p ≡ q = ap (λ (y : ℕ × Entry). y.0) (same_Some (p, x) (q, e) (ap (λ ys. slice_get ys 0) (sym (own_first c p x es is)) ∙ at)) in omega (arith, same)
-  | inr not ↦ let n = not_before c (p + 1) q e es (ap (λ ys. slice_get ys 0) (sym (other_first c p x es not)) ∙ at) in omega (arith, n)
-]
-
--- a journal is determined by what each caller has in it
-same_entries : (n p : ℕ) (es fs : List Entry) → All (λ (e : Entry). e.caller < n) es → All (λ (e : Entry). e.caller < n) fs → ((c : ℕ) → c < n → entries_of c p es ≡ entries_of c p fs) → es ≡ fs
-same_entries n p [] [] few few' same = refl
-same_entries n p [] (f ∷ fs) few few' same =
-    let lt = All-head (λ (e : Entry). e.caller < n) f fs few' in
-    absurd (none-some (p, f) (ap (λ ys. slice_get ys 0) (same f.caller lt ∙ own_first f.caller p f fs refl)))
-same_entries n p (e ∷ es) [] few few' same =
-    let lt = All-head (λ (x : Entry). x.caller < n) e es few in
-    absurd (none-some (p, e) (ap (λ ys. slice_get ys 0) (sym (same e.caller lt) ∙ own_first e.caller p e es refl)))
-same_entries n p (e ∷ es) (f ∷ fs) few few' same =
-    let lt = All-head (λ (x : Entry). x.caller < n) e es few in
-    let first = ap (λ ys. slice_get ys 0) (sym (same e.caller lt) ∙ own_first e.caller p e es refl) in
-    elim (cases_eq f.caller e.caller) [
-      | inl is ↦
-          let heads : f ≡ e = ap (λ (y : ℕ × Entry). y.1) (same_Some (p, f) (p, e) (ap (λ ys. slice_get ys 0) (sym (own_first e.caller p f fs is)) ∙ first)) in
-          let tails : es ≡ fs = same_entries n (p + 1) es fs (All-tail (λ (x : Entry). x.caller < n) e es few) (All-tail (λ (x : Entry). x.caller < n) f fs few') (λ c inside. elim (cases_eq e.caller c) [
-            | inl mine ↦ ap (λ ys. drop 1 ys) (sym (own_first c p e es mine) ∙ same c inside ∙ own_first c p f fs (is ∙ mine))
-            | inr not ↦ sym (other_first c p e es not) ∙ same c inside ∙ other_first c p f fs (λ q. not (sym is ∙ q))
-          ]) in
-          λ i. sym heads i ∷ tails i
-      | inr not ↦ absurd (let n = not_before e.caller (p + 1) p e fs (ap (λ ys. slice_get ys 0) (sym (other_first e.caller p f fs not)) ∙ first) in omega (arith, n))
-    ]
+use Rattle.claim_rule.proofs.WayLemmas.{sound_by}
 
 -- two records are of one caller, with the same entries
 pub record AreAlike (r q : Record) : Type 0 where
@@ -84,7 +48,7 @@ itself r = record { alike = record { number = refl; committed = refl }; caller =
 abbrev pub HasTwins : {D : Type 0} → (Record → Record → Type 0) → List (View D) → List (View D) → Type 0
 HasTwins Twin views others = (seat place : ℕ) (r : Record) → HasRecord views seat place r → (seat' place' : ℕ) × (q : Record) × HasRecord others seat' place' q × Twin r q
 
-module _ {D : Type 0} (verdict : D → Shown → Verdict) (z : Terms D) (s s' : Content D) (ok : IsSetup (setup_of_terms verdict z)) where
+module _ {D : Type 0} (verdict : D → Shown → Verdict) (z : Terms D) (way : CommitWay) (s s' : Content D) (ok : IsSetup (setup_of_terms verdict z)) where
   abbrev g : Setup
   g = setup_of_terms verdict z
 
@@ -92,7 +56,7 @@ module _ {D : Type 0} (verdict : D → Shown → Verdict) (z : Terms D) (s s' : 
   listed one sound = All-weaker (IsListed z.lists) (λ (e : Entry). e.caller < length z.lists.ids) (λ e is. is.caller) one.journal sound.order.listed
 
   -- the records of callers determine the journal,
-  pub same_journal : (one two : State) → Sound g one → Sound g two → Stands verdict z s one → Stands verdict z s' two → HasTwins AreAlike s.views s'.views → one.journal ≡ two.journal
+  pub same_journal : (one two : State) → Sound g one → Sound g two → Stands verdict z way s one → Stands verdict z way s' two → HasTwins AreAlike s.views s'.views → one.journal ≡ two.journal
   same_journal one two sound sound' st st' twins = same_entries (length z.lists.ids) 0 one.journal two.journal (listed one sound) (listed two sound') own
     where
       own : (c : ℕ) → c < length z.lists.ids → entries_of c 0 one.journal ≡ entries_of c 0 two.journal
@@ -109,14 +73,14 @@ module _ {D : Type 0} (verdict : D → Shown → Verdict) (z : Terms D) (s s' : 
   same_last one two sound sound' same = run_has_one_last g.verdict g.world one.journal sound.last sound'.last sound.run (subst (λ es. Run g.verdict g.world es sound'.last) (sym same) sound'.run)
 
   -- a word has one tag,
-  same_tag : (one two : State) → Stands verdict z s one → Stands verdict z s' two → s.words ≡ s'.words → (k : ℕ) → k < cells z.world → cell_tag one k ≡ cell_tag two k
-  same_tag one two st st' words k inside = elim (cases_lt k (first_plain z.world)) [
+  same_tag : (one two : State) → Stands verdict z way s one → Stands verdict z way s' two → s.words ≡ s'.words → (k : ℕ) → k < cells z.world → cell_tag one k ≡ cell_tag two k
+  same_tag one two st st' words k inside = elim (cases_lt k (first_plain way z.world)) [
     | inl lt ↦ sym (st.words.node k lt).tag ∙ ap (λ (ws : List ℕ). word_tag (slice_index ws k)) words ∙ (st'.words.node k lt).tag
     | inr le ↦ sym (st.words.plain k le inside) ∙ ap (λ (ws : List ℕ). slice_index ws k) words ∙ st'.words.plain k le inside
   ]
 
   -- with the words they determine the state
-  pub same_state : (one two : State) → Sound g one → Sound g two → Stands verdict z s one → Stands verdict z s' two → s.words ≡ s'.words → HasTwins SayTheSame s.views s'.views → one ≡ two
+  pub same_state : (one two : State) → Sound g one → Sound g two → Stands verdict z way s one → Stands verdict z way s' two → s.words ≡ s'.words → HasTwins SayTheSame s.views s'.views → one ≡ two
   same_state one two sound sound' st st' words twins = λ i. record { tags = tags i; values = values i; journal = journal i; holder = holder i; callers = callers i }
     where
       same_callers : (c : ℕ) → c < length z.lists.ids → slice_get one.callers c ≡ slice_get two.callers c
@@ -166,7 +130,7 @@ module _ {D : Type 0} (verdict : D → Shown → Verdict) (z : Terms D) (s s' : 
       values : one.values ≡ two.values
       values = sound.values ∙ ap values_of (same_last one two sound sound' journal) ∙ sym sound'.values
 
-pub state_is_determined : {D : Type 0} (verdict : D → Shown → Verdict) → StateIsDetermined verdict
-state_is_determined verdict z s one two ok st st' =
+pub state_is_determined : {D : Type 0} (way : CommitWay) (verdict : D → Shown → Verdict) → StateIsDetermined way verdict
+state_is_determined way verdict z s one two ok st st' =
     let g = setup_of_terms verdict z in
-    same_state verdict z s s ok (after g one) (after g two) (always g ok one) (always g ok two) st st' refl (λ d j r has. (d, j, r, has, itself r))
+    same_state verdict z way s s ok (after_by way g one) (after_by way g two) (sound_by g way ok one) (sound_by g way ok two) st st' refl (λ d j r has. (d, j, r, has, itself r))

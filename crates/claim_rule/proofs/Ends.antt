@@ -16,21 +16,22 @@ use Rattle.amoebot_state.proofs.Patched.{patched_is_unique, run_has_one_last}
 use Rattle.claim_core.specs.declared.marks.Mark.TheVariants as mark
 use Rattle.claim_core.specs.Turns.{Kept, bot_of_turn}
 use Rattle.claim_core.specs.Good.{IsListed}
-use Rattle.claim_core.specs.Machine.{Setup, State, after}
+use Rattle.claim_core.specs.Machine.{Setup, State}
 use Rattle.claim_core.specs.Reached.{HasValues}
 use Rattle.claim_core.specs.Soundness.{IsSetup, Sound}
 use Rattle.claim_core.proofs.Ends.{same_world}
 use Rattle.claim_core.proofs.HolderLemmas.{framed}
 use Rattle.claim_core.proofs.Moved.{told_by}
 use Rattle.claim_core.proofs.Places.{same_by_get}
-use Rattle.claim_core.proofs.Sounds.{always}
 use Rattle.claim_rule.specs.declared.views.Terms.{Terms}
 use Rattle.claim_rule.specs.Views.{setup_of_terms}
 use Rattle.claim_rule.specs.Stands.{IsRecord}
 use Rattle.claim_rule.specs.Tokens.{Token, record_in, number_in, doing}
+use Rattle.claim_rule.specs.Manners.{CommitWay, after_by}
 use Rattle.claim_rule.specs.Closing.{ClosesAs}
 use Rattle.claim_rule.specs.Laws.{FieldEndsOneWay}
 use Rattle.claim_rule.proofs.Closes.{some_there}
+use Rattle.claim_rule.proofs.WayLemmas.{sound_by}
 
 -- the entries are of the same turn
 pub record AreOfOneTurn (e f : Entry) : Type 0 where
@@ -65,7 +66,7 @@ same_runs v w (e ∷ es) (f ∷ fs) one two first second there back =
     let tails : es ≡ fs = same_runs v first.0 es fs one two first.2 (subst (λ c. Run v c fs two) mid second.2) (λ k x at. there (suc k) x at) (λ k x at. back (suc k) x at) in
     λ i. heads i ∷ tails i
 
-module _ {D : Type 0} (verdict : D → Shown → Verdict) (z : Terms D) (seats : List (Option (Token D))) (ok : IsSetup (setup_of_terms verdict z)) (count : length seats ≡ length z.lists.ids) (full : All (λ o. IsSome o) seats) where
+module _ {D : Type 0} (verdict : D → Shown → Verdict) (z : Terms D) (way : CommitWay) (seats : List (Option (Token D))) (ok : IsSetup (setup_of_terms verdict z)) (count : length seats ≡ length z.lists.ids) (full : All (λ o. IsSome o) seats) where
   abbrev g : Setup
   g = setup_of_terms verdict z
 
@@ -104,13 +105,13 @@ module _ {D : Type 0} (verdict : D → Shown → Verdict) (z : Terms D) (seats :
   last_is : (s : State) (world : Config) (sound : Sound g s) → HasValues g s world → world ≡ sound.last
   last_is s world sound has = same_world g s world sound.last has (framed g ok s sound) sound.values
 
-  pub ends_one_way : (w v : Config) (i j : Kept) → ClosesAs verdict z seats w i → ClosesAs verdict z seats v j → (w ≡ v) × (i.first ≡ j.first) × (i.entries ≡ j.entries)
+  pub ends_one_way : (w v : Config) (i j : Kept) → ClosesAs way verdict z seats w i → ClosesAs way verdict z seats v j → (w ≡ v) × (i.first ≡ j.first) × (i.entries ≡ j.entries)
   ends_one_way w v i j one two =
-      let sound = always g ok one.steps in
-      let sound' = always g ok two.steps in
-      let same = same_journals (after g one.steps) (after g two.steps) sound sound' (same_callers (after g one.steps) (after g two.steps) sound sound' (known (after g one.steps) one.callers) (known (after g two.steps) two.callers)) in
-      let last = run_has_one_last g.verdict g.world (after g one.steps).journal sound.last sound'.last sound.run (subst (λ es. Run g.verdict g.world es sound'.last) (sym same) sound'.run) in
-      (last_is (after g one.steps) w sound one.values ∙ last ∙ sym (last_is (after g two.steps) v sound' two.values), one.first ∙ sym two.first, one.entries ∙ same ∙ sym two.entries)
+      let sound = sound_by g way ok one.steps in
+      let sound' = sound_by g way ok two.steps in
+      let same = same_journals (after_by way g one.steps) (after_by way g two.steps) sound sound' (same_callers (after_by way g one.steps) (after_by way g two.steps) sound sound' (known (after_by way g one.steps) one.callers) (known (after_by way g two.steps) two.callers)) in
+      let last = run_has_one_last g.verdict g.world (after_by way g one.steps).journal sound.last sound'.last sound.run (subst (λ es. Run g.verdict g.world es sound'.last) (sym same) sound'.run) in
+      (last_is (after_by way g one.steps) w sound one.values ∙ last ∙ sym (last_is (after_by way g two.steps) v sound' two.values), one.first ∙ sym two.first, one.entries ∙ same ∙ sym two.entries)
 
-pub field_ends_one_way : {D : Type 0} (verdict : D → Shown → Verdict) → FieldEndsOneWay verdict
-field_ends_one_way verdict z seats w v i j ok count full one two = ends_one_way verdict z seats ok count full w v i j one two
+pub field_ends_one_way : {D : Type 0} (way : CommitWay) (verdict : D → Shown → Verdict) → FieldEndsOneWay way verdict
+field_ends_one_way way verdict z seats w v i j ok count full one two = ends_one_way verdict z way seats ok count full w v i j one two

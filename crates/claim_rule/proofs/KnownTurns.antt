@@ -12,11 +12,12 @@ use Rattle.amoebot_state.specs.Pairs.{Pairs}
 use Rattle.amoebot_state.specs.Zones.{Shown}
 use Rattle.claim_rule.specs.declared.views.Note.{Note}
 use Rattle.claim_rule.specs.Views.{Seated}
+use Rattle.claim_rule.specs.Manners.{CommitWay}
 use Rattle.claim_rule.specs.Tokens.{IsActivation, IsClaiming, frame_of}
 use Rattle.claim_rule.proofs.ActivationLemmas.{last_first}
 
-module _ {D : Type 0} (verdict : D → Shown → Verdict) (m : Seated D) (c t b : ℕ) (s : Bool) (area : Extent) (maxes : List ℕ) (cells : Pairs) (n : CellName) (x : Cell) (notes : List Note)
-    (is : IsActivation verdict m c t b s (frame_of area maxes) ((n, x) ∷ reverse cells) notes) (claims : IsClaiming verdict m t b ((n, x) ∷ reverse cells)) where
+module _ {D : Type 0} {way : CommitWay} (verdict : D → Shown → Verdict) (m : Seated D) (c t b : ℕ) (s : Bool) (area : Extent) (maxes : List ℕ) (cells : Pairs) (n : CellName) (x : Cell) (notes : List Note)
+    (is : IsActivation verdict way m c t b s (frame_of area maxes) ((n, x) ∷ reverse cells) notes) (claims : IsClaiming verdict m t b ((n, x) ∷ reverse cells)) where
   turned : reverse ((n, x) ∷ reverse cells) ≡ cells ++ (n, x) ∷ []
   turned = ap reverse (sym (last_first cells (n, x))) ∙ reverse-reverse (cells ++ (n, x) ∷ [])
 

@@ -1,6 +1,7 @@
 -- What a caller knows of walls once one more cell is won: those among the nodes that it holds, of which there are few.
 use Rattle.std.proofs.Common.{◌≡◌, ℕ, ◌<◌, ◌≤◌, List, [], ◌∷◌, ◌++◌, length, take, drop, ap, sym, ◌∙◌, subst, arith, Bool, true, false}
 use Rattle.std.specs.Prelude.{if◌then◌else◌}
+use Rattle.std.proofs.lemmas.Bool.{false≢true}
 use Rattle.std.proofs.lemmas.List.{append-nil, length-append, take-append-drop}
 use Rattle.tri_lattice.specs.declared.node.Node.{Node}
 use Rattle.tri_lattice.specs.Extent.{Extent}
@@ -46,6 +47,11 @@ wall_has_room w a i cells v x walls known read =
     let more : Pairs = cells ++ (name.Spot v, x) ∷ [] in
     let parts : length (nodes_in more) ≡ length (nodes_in cells ++ v ∷ []) = ap length (nodes_in-append cells ((name.Spot v, x) ∷ [])) in
     omega (arith, few_read a i more read, parts, length-append (nodes_in cells) (v ∷ []), length-filter-le (is_wall w) (nodes_in cells), ap length known)
+
+-- and of any cell that is a wall
+pub wall_fits : (w : Config) (a : Extent) (i : ℕ) (cells : Pairs) (n : CellName) (x : Cell) (walls : List Node) → walls ≡ walls_read w cells → AreReadInOrder a i (cells ++ (n, x) ∷ []) → is_wall_cell w n ≡ true → length walls < most_nodes
+wall_fits w a i cells (name.Spot v) x walls known read wall = wall_has_room w a i cells v x walls known read
+wall_fits w a i cells (name.Body b) x walls known read wall = absurd (false≢true wall)
 
 -- a step that leaves a seat's terms leaves what it knows of walls
 pub still_known : {D : Type 0} (verdict : D → Shown → Verdict) (old new : View D) (r : Room) → new.terms ≡ old.terms → KnowsWalls (about verdict old).world r → KnowsWalls (about verdict new).world r

@@ -1,3 +1,4 @@
+pub mod WayLemmas
 pub mod Stamping
 pub mod Tables
 pub mod Moves
@@ -15,7 +16,9 @@ pub mod MarkLemmas
 pub mod SeatsLemmas
 pub mod Places
 pub mod Takings
+pub mod CommitLemmas
 pub mod Commits
+pub mod Draws
 pub mod ActivationLemmas
 pub mod SettlingLemmas
 pub mod SeatingLemmas

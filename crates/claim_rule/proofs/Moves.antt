@@ -16,24 +16,25 @@ use Rattle.claim_core.specs.declared.state.Committed.{Committed}
 use Rattle.claim_core.specs.Limits.{most_turns}
 use Rattle.claim_core.specs.Turns.{Kept}
 use Rattle.claim_core.specs.Cells.{number, at, cells}
-use Rattle.claim_core.specs.Machine.{Setup, State, next}
+use Rattle.claim_core.specs.Machine.{Setup, State}
 use Rattle.claim_core.specs.Soundness.{IsHeld, names, Sound}
 use Rattle.claim_core.specs.Reached.{IsShownAt}
 use Rattle.claim_core.proofs.Places.{get-set_here, get-set_else}
 use Rattle.claim_core.proofs.Numbers.{value_at, value_held}
 use Rattle.claim_core.proofs.Fronts.{name_of_held}
 use Rattle.claim_core.proofs.HolderLemmas.{is_known, same_area}
-use Rattle.claim_core.proofs.Sounds.{one_step}
 use Rattle.claim_rule.specs.declared.views.Slot.{Slot}
 use Rattle.claim_rule.specs.declared.views.Record.{Record}
 use Rattle.claim_rule.specs.declared.views.Terms.{Terms}
 use Rattle.claim_rule.specs.declared.views.View.{View}
 use Rattle.claim_rule.specs.Views.{Content, view_of, setup_of_terms}
 use Rattle.claim_rule.specs.declared.views.Note.{Note}
-use Rattle.claim_rule.specs.Stands.{IsStamped, turns_left, IsCoreJournal, HasTaken, HasCommitted, IsRecord, AreWords, AreHomes, HasRecord, Stands}
+use Rattle.claim_rule.specs.Manners.{CommitWay, by_journal, by_ticket, next_by}
+use Rattle.claim_rule.specs.Stands.{IsStampedBy, turns_left, IsCoreJournal, IsJournalHome, HasTaken, HasCommitted, IsRecord, AreWords, AreHomes, HasRecord, Stands}
 use Rattle.claim_rule.specs.Nexts.{IsAt}
 use Rattle.claim_rule.proofs.Tables.{later, cases, back, forth}
 use Rattle.claim_rule.proofs.NextsLemmas.{tags_count}
+use Rattle.claim_rule.proofs.WayLemmas.{NobodyHolds, on_by}
 
 -- the same number, where the state is sound, has the cell's value
 at_there : (xs : List Cell) (ts : List ℕ) (o : Option ℕ) (t : ℕ) → length ts ≡ length xs → at ts o ≡ Some t → (x : Cell) × (at xs o ≡ Some x)
@@ -60,8 +61,13 @@ taken_else g old new c (Some v) was now t = absurd (was t.0)
 pub journal_stays : (g : Setup) (old new : State) → new.journal ≡ old.journal → turns_left g new ≤ turns_left g old → (j : Kept) → IsCoreJournal g old j → IsCoreJournal g new j
 journal_stays g old new journal fewer j is = record { first = is.first; entries = is.entries ∙ sym journal; room = omega (arith, fewer, is.room) }
 
+-- by tickets nobody holds the journal
+nobody : (way : CommitWay) (g : Setup) (core : State) (homes : List (home.Option Slot)) → IsJournalHome way g core homes → NobodyHolds way core
+nobody by_journal g core homes is = tt
+nobody by_ticket g core homes is = is
+
 -- a step of a seat's caller, at a table that stands for a state
-module _ {D : Type 0} {verdict : D → Shown → Verdict} {z : Terms D} {s : Content D} {core : State} {seat : ℕ} {r : Record} (table : IsAt verdict z s core seat r) where
+module _ {D : Type 0} {verdict : D → Shown → Verdict} {z : Terms D} {way : CommitWay} {s : Content D} {core : State} {seat : ℕ} {r : Record} (table : IsAt verdict z way s core seat r) where
   abbrev pub g : Setup
   g = setup_of_terms verdict z
 
@@ -86,8 +92,8 @@ module _ {D : Type 0} {verdict : D → Shown → Verdict} {z : Terms D} {s : Con
   sound = table.sound
 
   -- and so is the state after the caller's next step
-  pub on : Sound g (next g r.number core)
-  on = one_step g table.run core table.sound r.number
+  pub on : Sound g (next_by way g r.number core)
+  on = on_by g way table.run r.number core (nobody way g core s.homes table.stands.homes.journal) table.sound
 
   -- what the record says is so
   pub mine : IsRecord g core r
@@ -106,11 +112,11 @@ module _ {D : Type 0} {verdict : D → Shown → Verdict} {z : Terms D} {s : Con
   -- the table stands for the state at the end of a step of the seat; the premises say what the step leaves of the core, of the other
   -- records and of the nodes' words
   pub moved : (new end : State) → Sound g end → (r' : Record) (words : List ℕ) (homes : List (home.Option Slot)) → new ≡ end → r'.number ≡ r.number → new.callers ≡ set core.callers r.number r'.caller
-      → AreWords g new words → AreHomes g new homes → ((q : Record) → q.number ≢ r.number → HasCommitted g core q.number q.committed q.taken → HasCommitted g new q.number q.committed q.taken)
-      → HasCommitted g new r.number r'.committed r'.taken → ((q : Record) → q.number ≢ r.number → IsRecord g core q → IsStamped g s.words q → IsStamped g words q) → IsStamped g words r'
+      → AreWords way g new words → AreHomes way g new homes → ((q : Record) → q.number ≢ r.number → HasCommitted g core q.number q.committed q.taken → HasCommitted g new q.number q.committed q.taken)
+      → HasCommitted g new r.number r'.committed r'.taken → ((q : Record) → q.number ≢ r.number → IsRecord g core q → IsStampedBy way g s.words q → IsStampedBy way g words q) → IsStampedBy way g words r'
       → length new.journal + turns_left g new ≤ most_turns
-      → Stands verdict z (record { words = words; homes = homes; views = set s.views seat (view_of z (r' ∷ [])) }) end
-  moved new end end_sound r' words homes step same callers words_are homes_are others own others_stamped own_stamped few = subst (Stands verdict z _) step stands
+      → Stands verdict z way (record { words = words; homes = homes; views = set s.views seat (view_of z (r' ∷ [])) }) end
+  moved new end end_sound r' words homes step same callers words_are homes_are others own others_stamped own_stamped few = subst (Stands verdict z way _) step stands
     where
       views : List (View D)
       views = later z s.views seat r r' table.there
@@ -124,9 +130,9 @@ module _ {D : Type 0} {verdict : D → Shown → Verdict} {z : Terms D} {s : Con
         committed = subst (λ c. HasCommitted g new c r'.committed r'.taken) (sym same) own;
       }
 
-      each : (d j : ℕ) (q : Record) → HasRecord views d j q → IsRecord g new q × IsStamped g words q
+      each : (d j : ℕ) (q : Record) → HasRecord views d j q → IsRecord g new q × IsStampedBy way g words q
       each d j q has = elim (cases z s.views seat r r' table.there d j q has) [
-        | inl is ↦ (subst (IsRecord g new) is.2 is_new, subst (IsStamped g words) is.2 own_stamped)
+        | inl is ↦ (subst (IsRecord g new) is.2 is_new, subst (IsStampedBy way g words) is.2 own_stamped)
         | inr is ↦
             let was = table.stands.views.each d j q is.1 in
             let apart : q.number ≢ r.number = λ e. is.0 (table.stands.views.one d j seat zero q r is.1 (view_of z (r ∷ []), table.there, refl) e).0 in
@@ -136,7 +142,7 @@ module _ {D : Type 0} {verdict : D → Shown → Verdict} {z : Terms D} {s : Con
       some : (c : ℕ) → c < length z.lists.ids → (d j : ℕ) × (q : Record) × HasRecord views d j q × (q.number ≡ c)
       some c lt = let was = table.stands.views.some c lt in let now = forth z s.views seat r r' table.there same was.0 was.1 was.2 was.3 in (was.0, was.1, now.0, now.1, now.2 ∙ was.4)
 
-      stands : Stands verdict z (record { words = words; homes = homes; views = views }) new
+      stands : Stands verdict z way (record { words = words; homes = homes; views = views }) new
       stands = record {
         words = words_are;
         homes = homes_are;
@@ -155,13 +161,13 @@ module _ {D : Type 0} {verdict : D → Shown → Verdict} {z : Terms D} {s : Con
         few = few;
       }
 
-  pub my_stamps : IsStamped g s.words r
+  pub my_stamps : IsStampedBy way g s.words r
   my_stamps = table.stands.stamps seat zero r (view_of z (r ∷ []), table.there, refl)
 
   -- the same where the journal and its holder are as before, and no mark goes
   pub moves : (new end : State) → Sound g end → (k : Caller) (won : List Note) (note : Option Note) (words : List ℕ) (homes : List (home.Option Slot)) → new ≡ end → new.callers ≡ set core.callers r.number k → new.journal ≡ core.journal → new.holder ≡ core.holder → turns_left g new ≤ turns_left g core
-      → AreWords g new words → AreHomes g new homes → ((q : Record) → q.number ≢ r.number → IsRecord g core q → IsStamped g s.words q → IsStamped g words q) → IsStamped g words (record r { caller = k; won = won; note = note })
-      → Stands verdict z (record { words = words; homes = homes; views = set s.views seat (view_of z (record r { caller = k; won = won; note = note } ∷ [])) }) end
+      → AreWords way g new words → AreHomes way g new homes → ((q : Record) → q.number ≢ r.number → IsRecord g core q → IsStampedBy way g s.words q → IsStampedBy way g words q) → IsStampedBy way g words (record r { caller = k; won = won; note = note })
+      → Stands verdict z way (record { words = words; homes = homes; views = set s.views seat (view_of z (record r { caller = k; won = won; note = note } ∷ [])) }) end
   moves new end end_sound k won note words homes step callers journal holder fewer words_are homes_are others own = moved new end end_sound (record r { caller = k; won = won; note = note }) words homes step refl callers words_are homes_are
       (λ q apart. committed_stays g core new q.number q.committed q.taken journal holder fewer) (committed_stays g core new r.number r.committed r.taken journal holder fewer mine.committed) others own
       (omega (arith, fewer, table.stands.few, ap (λ (es : List _). length es) journal))

@@ -35,7 +35,8 @@ use Rattle.claim_rule.specs.declared.views.Record.{Record}
 use Rattle.claim_rule.specs.declared.views.Terms.{Terms}
 use Rattle.claim_rule.specs.Words.{word_tag, word_occ, word_stamp}
 use Rattle.claim_rule.specs.Views.{Content, Seated, view_of, own, with_note, setup_of_terms}
-use Rattle.claim_rule.specs.Stands.{cell_tag, first_plain, turns_left, IsNodeWord, IsWon, AreWon, IsNoted, IsStamped, IsRecord, AreWords, AreHomes, KeepsRule}
+use Rattle.claim_rule.specs.Manners.{CommitWay, by_journal, first_plain}
+use Rattle.claim_rule.specs.Stands.{cell_tag, turns_left, IsNodeWord, IsWon, AreWon, IsNoted, IsStamped, IsRecord, AreWords, AreHomes, KeepsRule}
 use Rattle.claim_rule.specs.Plays.{IsPlaced, IsKnown, IsOthers, IsToTryNode, IsToWin, with_node, refused_at, note_of, LooksAt, TriesNode}
 use Rattle.claim_rule.specs.Nexts.{GoesTo, IsAt}
 use Rattle.claim_rule.proofs.Stamping.{tag_in, free_same}
@@ -55,7 +56,7 @@ is_placed g ok s sound c k there p n nx =
 pub tag_small : (g : Setup) → IsSetup g → (c t : ℕ) → c < length g.lists.ids → t < g.lists.turns → own_tag g c t < 2 ^ 33
 tag_small g ok c t known lt = let b = own_small g ok c t known in let u = turn_small g ok c t known lt in let callers = ok.lists.few.at_most_16 in omega (arith, known, b, u, callers)
 
-module _ {D : Type 0} {verdict : D → Shown → Verdict} {z : Terms D} {s : Content D} {core : State} {seat : ℕ} {r : Record} (table : IsAt verdict z s core seat r) where
+module _ {D : Type 0} {verdict : D → Shown → Verdict} {z : Terms D} {s : Content D} {core : State} {seat : ℕ} {r : Record} (table : IsAt verdict z by_journal s core seat r) where
   abbrev g : Setup
   g = setup_of_terms verdict z
 
@@ -75,7 +76,7 @@ module _ {D : Type 0} {verdict : D → Shown → Verdict} {z : Terms D} {s : Con
     abbrev t : ℕ
     t = own_tag g r.number r.caller.turn
 
-    in_nodes : i < first_plain z.world
+    in_nodes : i < first_plain by_journal z.world
     in_nodes = node_number g v i at_i.0
 
     inside : i < length core.tags
@@ -116,7 +117,7 @@ module _ {D : Type 0} {verdict : D → Shown → Verdict} {z : Terms D} {s : Con
         let by = refused_by g table.run core (sound table) r.number r.caller (caller_at table) n (word_tag w) (before g table.run core (sound table) r.number r.caller (caller_at table) n phase next_node) found_tag held in
         record { some = held; listed = by.listed; other = by.other; turn = by.turn; of = by.of }
 
-    pub stands_refused : word_tag w ≢ 0 → Rattle.claim_rule.specs.Stands.Stands verdict z (record { words = set s.words i w; homes = s.homes; views = set s.views seat (view_of z (refused_at r v (word_tag w) ∷ [])) }) (next g r.number core)
+    pub stands_refused : word_tag w ≢ 0 → Rattle.claim_rule.specs.Stands.Stands verdict z by_journal (record { words = set s.words i w; homes = s.homes; views = set s.views seat (view_of z (refused_at r v (word_tag w) ∷ [])) }) (next g r.number core)
     stands_refused held = moves table new (next g r.number core) (on table) k' r.won None (set s.words i w) s.homes leads refl refl refl fewer words homes (λ q apart rec st. again q st) mine
       where
         k' : Caller
@@ -131,19 +132,19 @@ module _ {D : Type 0} {verdict : D → Shown → Verdict} {z : Terms D} {s : Con
         fewer : turns_left g new ≤ turns_left g core
         fewer = turns_same g core new r.number r.caller k' (caller_at table) refl refl
 
-        words : AreWords g new (set s.words i w)
-        words = word_again g core new s.words i table.stands.words (omega (arith, at_i.1)) refl refl refl refl
+        words : AreWords by_journal g new (set s.words i w)
+        words = word_again by_journal g core new s.words i table.stands.words (omega (arith, at_i.1)) refl refl refl refl
 
-        homes : AreHomes g new s.homes
-        homes = homes_same g core new s.homes table.stands.homes (λ k le. refl) refl refl (journal_stays g core new refl fewer)
+        homes : AreHomes by_journal g new s.homes
+        homes = homes_same by_journal g core new s.homes table.stands.homes (λ k le. refl) refl refl (journal_stays g core new refl fewer)
 
         mine : IsStamped g (set s.words i w) (record r { caller = k'; won = r.won; note = None })
         mine = record { won = (again r (my_stamps table)).won; noted = λ m e. absurd (none-some m e) }
 
     -- a free word was found, and is noted
-    pub stands_noted : Rattle.claim_rule.specs.Stands.Stands verdict z (record { words = set s.words i w; homes = s.homes; views = set s.views seat (view_of z (with_note r (Some (note_of v w)) ∷ [])) }) core
+    pub stands_noted : Rattle.claim_rule.specs.Stands.Stands verdict z by_journal (record { words = set s.words i w; homes = s.homes; views = set s.views seat (view_of z (with_note r (Some (note_of v w)) ∷ [])) }) core
     stands_noted = moves table core core (sound table) r.caller r.won (Some (note_of v w)) (set s.words i w) s.homes refl same_callers refl refl (omega arith)
-        (word_again g core core s.words i table.stands.words (omega (arith, at_i.1)) refl refl refl refl) table.stands.homes (λ q apart rec st. again q st) mine
+        (word_again by_journal g core core s.words i table.stands.words (omega (arith, at_i.1)) refl refl refl refl) table.stands.homes (λ q apart rec st. again q st) mine
       where
         same_callers : core.callers ≡ set core.callers r.number r.caller
         same_callers = sym (set_back core.callers r.number r.caller r.caller (caller_at table)) ∙ set-set core.callers r.number r.caller r.caller
@@ -204,13 +205,13 @@ module _ {D : Type 0} {verdict : D → Shown → Verdict} {z : Terms D} {s : Con
             stamp = (let a = says.2 in let c = node.stamp in omega (arith, a, c));
           }
 
-      words : AreWords g new (set s.words i put)
-      words = node_written g core new s.words i t put table.stands.words in_nodes inside tags refl refl refl here
+      words : AreWords by_journal g new (set s.words i put)
+      words = node_written by_journal g core new s.words i t put table.stands.words in_nodes inside tags refl refl refl here
 
-      homes : AreHomes g new s.homes
-      homes = homes_same g core new s.homes table.stands.homes (λ k le. ap (λ ts. slice_get ts k) tags ∙ get-set_else core.tags i k t (λ e. omega (arith, e, le, in_nodes))) refl refl (journal_stays g core new refl fewer)
+      homes : AreHomes by_journal g new s.homes
+      homes = homes_same by_journal g core new s.homes table.stands.homes (λ k le. ap (λ ts. slice_get ts k) tags ∙ get-set_else core.tags i k t (λ e. omega (arith, e, le, in_nodes))) refl refl (journal_stays g core new refl fewer)
 
-      alike : (k : ℕ) → k < first_plain z.world → Alike (slice_index s.words k) (slice_index (set s.words i put) k)
+      alike : (k : ℕ) → k < first_plain by_journal z.world → Alike (slice_index s.words k) (slice_index (set s.words i put) k)
       alike = alike_written g s.words i put in_words (says.1, says.2)
 
       still : (q : Record) → IsStamped g s.words q → IsStamped g (set s.words i put) q
@@ -231,7 +232,7 @@ module _ {D : Type 0} {verdict : D → Shown → Verdict} {z : Terms D} {s : Con
       mine_now : IsStamped g (set s.words i put) (record r { caller = k'; won = note ∷ r.won; note = None })
       mine_now = record { won = (note, r.won, refl, is_won, (still r (my_stamps table)).won); noted = λ m e. absurd (none-some m e) }
 
-      pub stands_won : Rattle.claim_rule.specs.Stands.Stands verdict z (record { words = set s.words i put; homes = s.homes; views = set s.views seat (view_of z (record r { caller = k'; won = note ∷ r.won; note = None } ∷ [])) }) (next g r.number core)
+      pub stands_won : Rattle.claim_rule.specs.Stands.Stands verdict z by_journal (record { words = set s.words i put; homes = s.homes; views = set s.views seat (view_of z (record r { caller = k'; won = note ∷ r.won; note = None } ∷ [])) }) (next g r.number core)
       stands_won = moves table new (next g r.number core) (on table) k' (note ∷ r.won) None (set s.words i put) s.homes leads refl refl refl fewer words homes (λ q apart rec st. still q st) mine_now
 
       now_sound : Sound g new
@@ -256,7 +257,7 @@ module _ {D : Type 0} {verdict : D → Shown → Verdict} {z : Terms D} {s : Con
     abbrev tells : ℕ → Seated D → Type 0
     tells = LooksAt verdict (step slots i 0 0 home.none) (view_of z (r ∷ []), carried)
 
-    pub look_stops : word_tag found ≢ 0 → GoesTo verdict z s (next g r.number core) i seat (view_of z (r ∷ []), carried) tells found
+    pub look_stops : word_tag found ≢ 0 → GoesTo verdict z by_journal s (next g r.number core) i seat (view_of z (r ∷ []), carried) tells found
     look_stops held = (
       view_of z (refused_at r to.node (word_tag found) ∷ []),
       keeps,
@@ -265,7 +266,7 @@ module _ {D : Type 0} {verdict : D → Shown → Verdict} {z : Terms D} {s : Con
       ((λ free. absurd (held free)), λ _. record { node = to.node; next = to.next; now = refl; out = refl; other = others i slots carried to.node to.phase to.next to.placed held }),
     )
 
-    pub look_notes : word_tag found ≡ 0 → GoesTo verdict z s core i seat (view_of z (r ∷ []), carried) tells found
+    pub look_notes : word_tag found ≡ 0 → GoesTo verdict z by_journal s core i seat (view_of z (r ∷ []), carried) tells found
     look_notes free = (
       view_of z (with_note r (Some (note_of to.node found)) ∷ []),
       keeps,
@@ -285,12 +286,12 @@ module _ {D : Type 0} {verdict : D → Shown → Verdict} {z : Terms D} {s : Con
     abbrev v' : Node
     v' = to.tries.node
 
-    pub try_wins : there ≡ old → GoesTo verdict z s (next g r.number core) i seat (view_of z (r ∷ []), carried) told put
-    try_wins hit = subst (λ q. GoesTo verdict z s (next g r.number core) i seat (view_of z (r ∷ []), carried) told q) (ap (λ q. q + own_tag g r.number r.caller.turn) hit ∙ sym to.put) (
+    pub try_wins : there ≡ old → GoesTo verdict z by_journal s (next g r.number core) i seat (view_of z (r ∷ []), carried) told put
+    try_wins hit = subst (λ q. GoesTo verdict z by_journal s (next g r.number core) i seat (view_of z (r ∷ []), carried) told q) (ap (λ q. q + own_tag g r.number r.caller.turn) hit ∙ sym to.put) (
       view_of z (with_node g r to.note ∷ []),
       keeps,
       tt,
-      subst (λ q. Rattle.claim_rule.specs.Stands.Stands verdict z (record { words = set s.words i (there + own_tag g r.number r.caller.turn); homes = s.homes; views = set s.views seat (view_of z (record r { caller = caller_with_cell g r.number r.caller (name.Spot q) (cell.Spot to.note.occ); won = to.note ∷ r.won; note = None } ∷ [])) }) (next g r.number core)) (sym to.of)
+      subst (λ q. Rattle.claim_rule.specs.Stands.Stands verdict z by_journal (record { words = set s.words i (there + own_tag g r.number r.caller.turn); homes = s.homes; views = set s.views seat (view_of z (record r { caller = caller_with_cell g r.number r.caller (name.Spot q) (cell.Spot to.note.occ); won = to.note ∷ r.won; note = None } ∷ [])) }) (next g r.number core)) (sym to.of)
           (stands_won i slots carried v' to.tries.phase to.tries.next to.tries.placed to.note to.of free occ stamp),
       (
         (λ _. record { note = to.note; noted = to.noted; now = refl; out = refl; known = subst (λ q. IsKnown g (bot g r.number r.caller.turn) ((name.Spot q, cell.Spot to.note.occ) ∷ r.caller.held)) (sym to.of) (known_now i slots carried v' to.tries.phase to.tries.next to.tries.placed to.note to.of free occ stamp) }),
@@ -308,7 +309,7 @@ module _ {D : Type 0} {verdict : D → Shown → Verdict} {z : Terms D} {s : Con
         stamp : word_stamp there ≡ to.note.stamp
         stamp = ap word_stamp hit ∙ to.found.2
 
-    pub try_stops : word_tag there ≢ 0 → GoesTo verdict z s (next g r.number core) i seat (view_of z (r ∷ []), carried) told there
+    pub try_stops : word_tag there ≢ 0 → GoesTo verdict z by_journal s (next g r.number core) i seat (view_of z (r ∷ []), carried) told there
     try_stops held = (
       view_of z (refused_at r v' (word_tag there) ∷ []),
       keeps,
@@ -329,7 +330,7 @@ module _ {D : Type 0} {verdict : D → Shown → Verdict} {z : Terms D} {s : Con
           | inr ne ↦ (let q = to.found.2 in omega (arith, least, q, ne))
         ]
 
-    pub try_notes : word_tag there ≡ 0 → there ≢ old → GoesTo verdict z s core i seat (view_of z (r ∷ []), carried) told there
+    pub try_notes : word_tag there ≡ 0 → there ≢ old → GoesTo verdict z by_journal s core i seat (view_of z (r ∷ []), carried) told there
     try_notes free other = (
       view_of z (with_note r (Some (note_of v' there)) ∷ []),
       keeps,
@@ -339,20 +340,27 @@ module _ {D : Type 0} {verdict : D → Shown → Verdict} {z : Terms D} {s : Con
     )
 
 module _ {D : Type 0} (verdict : D → Shown → Verdict) (z : Terms D) (ok : IsSetup (setup_of_terms verdict z)) where
-  pub look_allowed : (slots seat : ℕ) (me : Seated D) (i : ℕ) → me.0 ≡ view_of z (own me.0 ∷ []) → IsToTryNode verdict i me.0 → Allows (KeepsRule verdict z) slots seat me i (λ x. x) (LooksAt verdict (step slots i 0 0 home.none) me)
-  look_allowed slots seat me i one to =
-      allowed verdict z ok slots seat me i (λ x. x) (λ m. IsToTryNode verdict i m.0) (LooksAt verdict (step slots i 0 0 home.none)) one to
+  look_by_journal : (slots seat : ℕ) (me : Seated D) (i : ℕ) → me.0 ≡ view_of z (own me.0 ∷ []) → IsToTryNode verdict i me.0 → Allows (KeepsRule verdict z by_journal) slots seat me i (λ x. x) (LooksAt verdict (step slots i 0 0 home.none) me)
+  look_by_journal slots seat me i one to =
+      allowed verdict z by_journal ok slots seat me i (λ x. x) (λ m. IsToTryNode verdict i m.0) (LooksAt verdict (step slots i 0 0 home.none)) one to
       (λ s core r table fact. elim (cases_eq (word_tag (slice_index s.words i)) 0) [
         | inl free ↦ inr (look_notes table i slots me.1 fact free)
         | inr held ↦ inl (look_stops table i slots me.1 fact held)
       ])
 
-  pub try_allowed : (slots seat : ℕ) (me : Seated D) (i old put : ℕ) → me.0 ≡ view_of z (own me.0 ∷ []) → IsToWin verdict i old put me.0 → Allows (KeepsRule verdict z) slots seat me i (λ x. either (eqb x old) put x) (TriesNode verdict (step slots i old put home.none) me)
-  try_allowed slots seat me i old put one to =
-      allowed verdict z ok slots seat me i (λ x. either (eqb x old) put x) (λ m. IsToWin verdict i old put m.0) (TriesNode verdict (step slots i old put home.none)) one to
-      (λ s core r table fact. exchanged (slice_index s.words i) old put (λ q. Goes verdict z ok s core r.number i seat (view_of z (r ∷ []), me.1) (TriesNode verdict (step slots i old put home.none) (view_of z (r ∷ []), me.1)) q)
+  try_by_journal : (slots seat : ℕ) (me : Seated D) (i old put : ℕ) → me.0 ≡ view_of z (own me.0 ∷ []) → IsToWin verdict i old put me.0 → Allows (KeepsRule verdict z by_journal) slots seat me i (λ x. either (eqb x old) put x) (TriesNode verdict (step slots i old put home.none) me)
+  try_by_journal slots seat me i old put one to =
+      allowed verdict z by_journal ok slots seat me i (λ x. either (eqb x old) put x) (λ m. IsToWin verdict i old put m.0) (TriesNode verdict (step slots i old put home.none)) one to
+      (λ s core r table fact. exchanged (slice_index s.words i) old put (λ q. Goes verdict z by_journal ok s core r.number i seat (view_of z (r ∷ []), me.1) (TriesNode verdict (step slots i old put home.none) (view_of z (r ∷ []), me.1)) q)
       (λ hit. inl (try_wins table i old put slots me.1 fact hit))
       (λ other. elim (cases_eq (word_tag (slice_index s.words i)) 0) [
         | inl free ↦ inr (try_notes table i old put slots me.1 fact free other)
         | inr held ↦ inl (try_stops table i old put slots me.1 fact held)
       ]))
+
+  -- so they are allowed where nodes have words
+  pub look_allowed : (way : CommitWay) → way ≡ by_journal → (slots seat : ℕ) (me : Seated D) (i : ℕ) → me.0 ≡ view_of z (own me.0 ∷ []) → IsToTryNode verdict i me.0 → Allows (KeepsRule verdict z way) slots seat me i (λ x. x) (LooksAt verdict (step slots i 0 0 home.none) me)
+  look_allowed way words slots seat me i one to = subst (λ w. Allows (KeepsRule verdict z w) slots seat me i (λ x. x) (LooksAt verdict (step slots i 0 0 home.none) me)) (sym words) (look_by_journal slots seat me i one to)
+
+  pub try_allowed : (way : CommitWay) → way ≡ by_journal → (slots seat : ℕ) (me : Seated D) (i old put : ℕ) → me.0 ≡ view_of z (own me.0 ∷ []) → IsToWin verdict i old put me.0 → Allows (KeepsRule verdict z way) slots seat me i (λ x. either (eqb x old) put x) (TriesNode verdict (step slots i old put home.none) me)
+  try_allowed way words slots seat me i old put one to = subst (λ w. Allows (KeepsRule verdict z w) slots seat me i (λ x. either (eqb x old) put x) (TriesNode verdict (step slots i old put home.none) me)) (sym words) (try_by_journal slots seat me i old put one to)

@@ -36,7 +36,8 @@ use Rattle.claim_rule.specs.declared.views.Record.{Record}
 use Rattle.claim_rule.specs.declared.views.Terms.{Terms}
 use Rattle.claim_rule.specs.Words.{occ_number, word_tag, word_occ, word_stamp}
 use Rattle.claim_rule.specs.Views.{Content, Seated, view_of, own, setup_of_terms}
-use Rattle.claim_rule.specs.Stands.{first_plain, turns_left, IsNodeWord, IsWon, AreWon, IsStamped, IsRecord, AreWords, AreHomes, KeepsRule}
+use Rattle.claim_rule.specs.Manners.{CommitWay, by_journal, first_plain}
+use Rattle.claim_rule.specs.Stands.{turns_left, IsNodeWord, IsWon, AreWon, IsStamped, IsRecord, AreWords, AreHomes, KeepsRule}
 use Rattle.claim_rule.specs.Plays.{but_last, released_caller, but_first, occ_in, IsToFreeNode, ReleasesNode}
 use Rattle.claim_rule.specs.Nexts.{GoesTo, IsAt}
 use Rattle.claim_rule.proofs.Stamping.{occ_cases, made_of, small_occ}
@@ -49,7 +50,7 @@ pub frees_won : (g : Setup) (words : List ℕ) (t : ℕ) (held : Pairs) (marks :
 frees_won g words t [] marks ws is = is
 frees_won g words t (p ∷ held) marks ws is = is
 
-module _ {D : Type 0} {verdict : D → Shown → Verdict} {z : Terms D} {s : Content D} {core : State} {seat : ℕ} {r : Record} (table : IsAt verdict z s core seat r) where
+module _ {D : Type 0} {verdict : D → Shown → Verdict} {z : Terms D} {s : Content D} {core : State} {seat : ℕ} {r : Record} (table : IsAt verdict z by_journal s core seat r) where
   abbrev g : Setup
   g = setup_of_terms verdict z
 
@@ -72,7 +73,7 @@ module _ {D : Type 0} {verdict : D → Shown → Verdict} {z : Terms D} {s : Con
     abbrev t : ℕ
     t = r.caller.turn
 
-    in_nodes : i < first_plain z.world
+    in_nodes : i < first_plain by_journal z.world
     in_nodes = node_number g to.node i to.placed.0
 
     inside : i < length core.tags
@@ -193,11 +194,11 @@ module _ {D : Type 0} {verdict : D → Shown → Verdict} {z : Terms D} {s : Con
       stamp = subst (λ (es : List _). word_stamp x ≤ length es) (sym journal) stamp_few;
     }
 
-    words : AreWords g new (set s.words i x)
-    words = node_written g core new s.words i 0 x table.stands.words in_nodes inside tags values journal (λ j. 2 * length (journal j) + Rattle.std.specs.Option.option_len (holder j)) here
+    words : AreWords by_journal g new (set s.words i x)
+    words = node_written by_journal g core new s.words i 0 x table.stands.words in_nodes inside tags values journal (λ j. 2 * length (journal j) + Rattle.std.specs.Option.option_len (holder j)) here
 
-    homes : AreHomes g new s.homes
-    homes = homes_same g core new s.homes table.stands.homes (λ k le. ap (λ ts. slice_get ts k) tags ∙ get-set_else core.tags i k 0 (λ e. omega (arith, e, le, in_nodes))) values holder (journal_stays g core new journal fewer)
+    homes : AreHomes by_journal g new s.homes
+    homes = homes_same by_journal g core new s.homes table.stands.homes (λ k le. ap (λ ts. slice_get ts k) tags ∙ get-set_else core.tags i k 0 (λ e. omega (arith, e, le, in_nodes))) values holder (journal_stays g core new journal fewer)
 
     -- a cell with another number
     kept : (p : CellName × Cell) → cell_of p ≢ n → Keeps g s.words (set s.words i x) p
@@ -240,7 +241,7 @@ module _ {D : Type 0} {verdict : D → Shown → Verdict} {z : Terms D} {s : Con
       noted = λ m e. noted_on g s.words (set s.words i x) (grows_written g s.words i x in_words grows) m ((my_stamps table).noted m e);
     }
 
-    pub node_release_goes : GoesTo verdict z s (next g r.number core) i seat (view_of z (r ∷ []), carried) (λ _. ReleasesNode verdict (step slots i x 0 home.none) (view_of z (r ∷ []), carried) x) x
+    pub node_release_goes : GoesTo verdict z by_journal s (next g r.number core) i seat (view_of z (r ∷ []), carried) (λ _. ReleasesNode verdict (step slots i x 0 home.none) (view_of z (r ∷ []), carried) x) x
     node_release_goes = (
       view_of z (record r { caller = released_caller g r.caller; won = but_first r.won } ∷ []),
       keeps,
@@ -250,7 +251,11 @@ module _ {D : Type 0} {verdict : D → Shown → Verdict} {z : Terms D} {s : Con
     )
 
 module _ {D : Type 0} (verdict : D → Shown → Verdict) (z : Terms D) (ok : IsSetup (setup_of_terms verdict z)) where
-  pub node_release_allowed : (slots seat : ℕ) (me : Seated D) (i x : ℕ) → me.0 ≡ view_of z (own me.0 ∷ []) → IsToFreeNode verdict i x me.0 → Allows (KeepsRule verdict z) slots seat me i (λ _. x) (λ _. ReleasesNode verdict (step slots i x 0 home.none) me x)
-  node_release_allowed slots seat me i x one to =
-      allowed verdict z ok slots seat me i (λ _. x) (λ m. IsToFreeNode verdict i x m.0) (λ m _. ReleasesNode verdict (step slots i x 0 home.none) m x) one to
+  release_by_journal : (slots seat : ℕ) (me : Seated D) (i x : ℕ) → me.0 ≡ view_of z (own me.0 ∷ []) → IsToFreeNode verdict i x me.0 → Allows (KeepsRule verdict z by_journal) slots seat me i (λ _. x) (λ _. ReleasesNode verdict (step slots i x 0 home.none) me x)
+  release_by_journal slots seat me i x one to =
+      allowed verdict z by_journal ok slots seat me i (λ _. x) (λ m. IsToFreeNode verdict i x m.0) (λ m _. ReleasesNode verdict (step slots i x 0 home.none) m x) one to
       (λ s core r table fact. inl (node_release_goes table i x slots me.1 fact))
+
+  -- so it is allowed where nodes have words
+  pub node_release_allowed : (way : CommitWay) → way ≡ by_journal → (slots seat : ℕ) (me : Seated D) (i x : ℕ) → me.0 ≡ view_of z (own me.0 ∷ []) → IsToFreeNode verdict i x me.0 → Allows (KeepsRule verdict z way) slots seat me i (λ _. x) (λ _. ReleasesNode verdict (step slots i x 0 home.none) me x)
+  node_release_allowed way words slots seat me i x one to = subst (λ w. Allows (KeepsRule verdict z w) slots seat me i (λ _. x) (λ _. ReleasesNode verdict (step slots i x 0 home.none) me x)) (sym words) (release_by_journal slots seat me i x one to)

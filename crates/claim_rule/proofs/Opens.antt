@@ -1,11 +1,11 @@
 -- The table at the start stands for the opening of the machine.
-use Rattle.std.proofs.Common.{◌≡◌, ℕ, zero, suc, ◌+◌, ◌-◌, ◌*◌, ◌<◌, List, [], ◌∷◌, map, length, get_or, Option, Some, None, ap, sym, refl, subst, ◌∙◌, arith, length-append, suc-mul}
+use Rattle.std.proofs.Common.{◌≡◌, ℕ, zero, suc, ◌+◌, ◌-◌, ◌*◌, ◌<◌, ◌≤◌, List, [], ◌∷◌, map, length, get_or, Option, Some, None, ap, sym, refl, subst, ◌∙◌, arith, length-append, suc-mul}
 use Rattle.std.specs.Prelude.{slice_get, slice_index}
 use Rattle.std.specs.List.{range_with_len}
 use Rattle.std.proofs.lemmas.List.{length-map}
 use Rattle.std.proofs.lemmas.List.FromFn.{length-map-range_with_len}
 use Rattle.std.proofs.lemmas.List.Elements.{All-nil}
-use Rattle.std.proofs.lemmas.Option.{none-some, same_Some, slice_get_within, get_or_from_slice_get}
+use Rattle.std.proofs.lemmas.Option.{none-some, same_Some, slice_get_within, get_or_from_slice_get, slice_get-get_or}
 use mathlib.Core.Option as home
 use lib.ListN.{get_elem?}
 use Rattle.atomic_table.specs.Table.{opening}
@@ -19,6 +19,7 @@ use Rattle.amoebot_state.specs.declared.verdict.Verdict.{Verdict}
 use Rattle.amoebot_state.specs.Zones.{Shown}
 use Rattle.claim_core.specs.declared.state.Caller.{Caller}
 use Rattle.claim_core.specs.declared.state.Committed.{Committed}
+use Rattle.claim_core.specs.Limits.{most_turns}
 use Rattle.claim_core.specs.Turns.{Kept}
 use Rattle.claim_core.specs.Cells.{at, held_by, values_of, cells}
 use Rattle.claim_core.specs.Machine as machine
@@ -35,12 +36,14 @@ use Rattle.claim_rule.specs.declared.views.Record.{Record}
 use Rattle.claim_rule.specs.declared.views.Terms.{Terms}
 use Rattle.claim_rule.specs.declared.views.View.{View}
 use Rattle.claim_rule.specs.Views.{record_of, setup_of_terms}
-use Rattle.claim_rule.specs.Stands.{first_plain, journal_slot, IsNodeWord, IsWon, AreWon, IsStamped, HasCommitted, IsRecord, HasRecord, Stands, KeepsRule, records_from, first_view}
+use Rattle.claim_rule.specs.Manners.{CommitWay, by_journal, by_ticket, first_plain, slot_count}
+use Rattle.claim_rule.specs.Stands.{journal_slot, IsNodeWord, IsWon, AreWon, IsStamped, HasCommitted, IsRecord, HasRecord, turns_left, AreViews, Stands, KeepsRule, records_from, first_view}
 use Rattle.claim_rule.specs.Tokens.{FieldOf, IsField}
-use Rattle.claim_rule.specs.Opened.{AreFirstSlots, first_word, first_words}
+use Rattle.claim_rule.specs.Opened.{AreSlotsAtFirst, first_word, first_words}
 use Rattle.claim_rule.specs.Laws.{OpeningStands}
 use Rattle.claim_rule.proofs.Stamping.{made_of, small_occ}
 use Rattle.claim_rule.proofs.FirstSlots.{value_of_node, value_of_body}
+use Rattle.claim_rule.proofs.WayLemmas.{after_none}
 
 zero_of : {A : Type 0} (xs : List A) (k : ℕ) → ◌≡◌ {A = ℕ} (get_or (map (λ (_ : A). 0) xs) k 0) 0
 zero_of [] k = refl
@@ -59,8 +62,8 @@ by_either (y ∷ ys) zero x e = ap home.some (same_Some y x e)
 by_either (y ∷ ys) (suc k) x e = by_either ys k x e
 
 -- there is a word for each cell, and one more
-pub words_count : (w : Config) → length (first_words w) ≡ cells w + 1
-words_count w = length-append (map first_word (values_of w)) (0 ∷ []) ∙ (let n = length-map (values_of w) first_word in let m = length-values w in omega (arith, n, m))
+pub words_count : (way : CommitWay) (w : Config) → length (first_words way w) ≡ cells w + 1
+words_count way w = length-append (map (first_word way) (values_of w)) (0 ∷ []) ∙ (let n = length-map (values_of w) (first_word way) in let m = length-values w in omega (arith, n, m))
 
 module _ {D : Type 0} (verdict : D → Shown → Verdict) (z : Terms D) where
   abbrev g : machine.Setup
@@ -121,31 +124,81 @@ module _ {D : Type 0} (verdict : D → Shown → Verdict) (z : Terms D) where
   in_first : (seat place : ℕ) (r : Record) → HasRecord (first_view verdict z ∷ []) seat place r → (seat ≡ 0) × (slice_get (first_view verdict z).records place ≡ Some r)
   in_first seat place r has = let one = one_view seat has.0 has.1 in (one.0, subst (λ (v : View D). slice_get v.records place ≡ Some r) (sym one.1) has.2)
 
+  -- the views know all callers before their first turn
+  views_at_first : AreViews verdict z start (first_view verdict z ∷ [])
+  views_at_first = record {
+    terms = λ seat place v r at_seat at_place. sym (ap (λ (w : View D). w.terms) (one_view seat v at_seat).1);
+    each = λ seat place r has. is_record place r (in_first seat place r has).1;
+    some = λ c lt. (0, c, record_of (0 + c) (machine.fresh g), (first_view verdict z, refl, there 0 c start.callers (machine.fresh g) (fresh_there z.lists.ids c lt)), omega arith);
+    one = λ seat place seat' place' r q has has' same.
+        let a = in_first seat place r has in
+        let b = in_first seat' place' q has' in
+        let m = (from 0 place start.callers r a.1).0 in
+        let n = (from 0 place' start.callers q b.1).0 in
+        (a.0 ∙ sym b.0, omega (arith, m, n, same));
+    held = λ n t at_n some. absurd (some (tagged (Rattle.claim_core.specs.Cells.number z.world.area n) t at_n));
+  }
+    where
+      tagged : (o : Option ℕ) (t : ℕ) → at start.tags o ≡ Some t → t ≡ 0
+      tagged None t e = absurd (none-some t e)
+      tagged (Some k) t e = zero_there (values_of z.world) k t e
+
+  few_at_first : IsSetup g → length start.journal + turns_left g start ≤ most_turns
+  few_at_first ok = let left = all_left z.lists.ids in let few = ok.lists.few.in_all in omega (arith, left, few)
+
+  word_at : (way : CommitWay) (words : List ℕ) → words ≡ first_words way z.world → (k : ℕ) (x : Cell) → slice_get (values_of z.world) k ≡ Some x → slice_index words k ≡ first_word way x
+  word_at way words made k x e =
+      ap (λ ws. slice_index ws k) made
+      ∙ get_or_from_slice_get (first_words way z.world) k (first_word way x) 0 (get-append_left (map (first_word way) (values_of z.world)) (0 ∷ []) k (first_word way x) (get-map (first_word way) (values_of z.world) k x e))
+
+  last_at : (way : CommitWay) (words : List ℕ) → words ≡ first_words way z.world → slice_index words (cells z.world) ≡ 0
+  last_at way words made =
+      ap (λ ws. slice_index ws (cells z.world)) made
+      ∙ get_or_from_slice_get (first_words way z.world) (cells z.world) 0 0 (get-append_right (map (first_word way) (values_of z.world)) (0 ∷ []) 0 (cells z.world) (let n = length-map (values_of z.world) (first_word way) in let m = length-values z.world in omega (arith, n, m)))
+
   -- a table that begins like this stands for the opening,
-  pub opening_stands : IsSetup g → (words : List ℕ) (slots : List Slot) → words ≡ first_words z.world → AreFirstSlots z.world z.lists slots → Stands verdict z (opening words slots (first_view verdict z)) start
-  opening_stands ok words slots made first = record {
+  pub opening_stands : (way : CommitWay) → IsSetup g → (words : List ℕ) (slots : List Slot) → words ≡ first_words way z.world → AreSlotsAtFirst way z.world z.lists slots → Stands verdict z way (opening words slots (first_view verdict z)) start
+  opening_stands by_ticket ok words slots made first = record {
     words = record {
-      count = ap (λ (ws : List ℕ). length ws) made ∙ words_count z.world;
+      count = ap (λ (ws : List ℕ). length ws) made ∙ words_count by_ticket z.world;
+      node = λ k lt. absurd (omega (arith, lt));
+      plain = λ k le lt.
+          let there : slice_get (values_of z.world) k ≡ Some (get_or (values_of z.world) k (cell.Spot None)) = slice_get-get_or (values_of z.world) k (cell.Spot None) (let n = length-values z.world in omega (arith, n, lt)) in
+          word_at by_ticket words made k (get_or (values_of z.world) k (cell.Spot None)) there ∙ sym (zero_of (values_of z.world) k);
+      journal = last_at by_ticket words made;
+    };
+    homes = record {
+      count = length-map slots (λ x. home.some x) ∙ ap (λ (xs : List Slot). length xs) first ∙ length-map (values_of z.world) (λ x. slot.Cell x) ∙ length-values z.world;
+      cell = λ i x free value.
+          let there : slice_get (values_of z.world) i ≡ Some x = ap (slice_get (values_of z.world)) (let e : i ≡ first_plain by_ticket z.world + i = omega arith in e) ∙ value in
+          at_map (λ y. home.some y) slots i (slot.Cell x) (subst (λ (xs : List Slot). get_elem? xs i ≡ home.some (slot.Cell x)) (sym first) (by_either _ i (slot.Cell x) (get-map (λ y. slot.Cell y) (values_of z.world) i x there)));
+      journal = refl;
+    };
+    views = views_at_first;
+    stamps = λ seat place r has. tt;
+    few = few_at_first ok;
+  }
+  opening_stands by_journal ok words slots made first = record {
+    words = record {
+      count = ap (λ (ws : List ℕ). length ws) made ∙ words_count by_journal z.world;
       node = λ k lt.
           let o = occupant z.world (node_at z.world.area k) in
           let says = made_of 0 o 0 (omega arith) (small_occ z.world ok.few (node_at z.world.area k)) in
-          subst (IsNodeWord start k) (sym (word_at k (cell.Spot o) (value_of_node z.world k lt))) (record {
+          subst (IsNodeWord start k) (sym (word_at by_journal words made k (cell.Spot o) (value_of_node z.world k lt))) (record {
             tag = says.0 ∙ sym (zero_of (values_of z.world) k);
             free = λ _. value_of_node z.world k lt ∙ ap (λ q. Some (cell.Spot q)) (sym says.1);
             stamp = (let n = says.2 in omega (arith, n));
           });
       plain = λ k le lt.
-          let few : k - first_plain z.world < length z.world.bots = omega (arith, le, lt) in
-          let is : k ≡ first_plain z.world + (k - first_plain z.world) = omega (arith, le) in
-          word_at k (held_by z.world (name.Body (k - first_plain z.world))) (ap (slice_get (values_of z.world)) is ∙ value_of_body z.world (k - first_plain z.world) few) ∙ sym (zero_of (values_of z.world) k);
-      journal =
-          ap (λ ws. slice_index ws (cells z.world)) made
-          ∙ get_or_from_slice_get (first_words z.world) (cells z.world) 0 0 (get-append_right (map first_word (values_of z.world)) (0 ∷ []) 0 (cells z.world) (let n = length-map (values_of z.world) first_word in let m = length-values z.world in omega (arith, n, m)));
+          let few : k - first_plain by_journal z.world < length z.world.bots = omega (arith, le, lt) in
+          let is : k ≡ first_plain by_journal z.world + (k - first_plain by_journal z.world) = omega (arith, le) in
+          word_at by_journal words made k (held_by z.world (name.Body (k - first_plain by_journal z.world))) (ap (slice_get (values_of z.world)) is ∙ value_of_body z.world (k - first_plain by_journal z.world) few) ∙ sym (zero_of (values_of z.world) k);
+      journal = last_at by_journal words made;
     };
     homes = record {
       count = length-map slots (λ x. home.some x) ∙ many;
       cell = λ i x free value.
-          let within = slice_get_within (values_of z.world) (first_plain z.world + i) x value in
+          let within = slice_get_within (values_of z.world) (first_plain by_journal z.world + i) x value in
           let few : i < length z.world.bots = (let n = length-values z.world in omega (arith, n, within)) in
           let is : held_by z.world (name.Body i) ≡ x = same_Some _ x (sym (value_of_body z.world i few) ∙ value) in
           at_map (λ y. home.some y) slots i (slot.Cell x) (subst (λ (xs : List Slot). get_elem? xs i ≡ home.some (slot.Cell x)) (sym first.are)
@@ -160,20 +213,9 @@ module _ {D : Type 0} (verdict : D → Shown → Verdict) (z : Terms D) where
         },
       );
     };
-    views = record {
-      terms = λ seat place v r at_seat at_place. sym (ap (λ (w : View D). w.terms) (one_view seat v at_seat).1);
-      each = λ seat place r has. is_record place r (in_first seat place r has).1;
-      some = λ c lt. (0, c, record_of (0 + c) (machine.fresh g), (first_view verdict z, refl, there 0 c start.callers (machine.fresh g) (fresh_there z.lists.ids c lt)), omega arith);
-      one = λ seat place seat' place' r q has has' same.
-          let a = in_first seat place r has in
-          let b = in_first seat' place' q has' in
-          let m = (from 0 place start.callers r a.1).0 in
-          let n = (from 0 place' start.callers q b.1).0 in
-          (a.0 ∙ sym b.0, omega (arith, m, n, same));
-      held = λ n t at_n some. absurd (some (tagged (Rattle.claim_core.specs.Cells.number z.world.area n) t at_n));
-    };
+    views = views_at_first;
     stamps = λ seat place r has. is_stamped words place r (in_first seat place r has).1;
-    few = let left = all_left z.lists.ids in let few = ok.lists.few.in_all in omega (arith, left, few);
+    few = few_at_first ok;
   }
     where
       bodies : List Slot
@@ -185,34 +227,26 @@ module _ {D : Type 0} (verdict : D → Shown → Verdict) (z : Terms D) where
       many : length slots ≡ journal_slot z.world + 1
       many = ap (λ (xs : List Slot). length xs) first.are ∙ length-append bodies (slot.Journal first.journal ∷ []) ∙ (let s = size in omega (arith, s))
 
-      word_at : (k : ℕ) (x : Cell) → slice_get (values_of z.world) k ≡ Some x → slice_index words k ≡ first_word x
-      word_at k x e =
-          ap (λ ws. slice_index ws k) made
-          ∙ get_or_from_slice_get (first_words z.world) k (first_word x) 0 (get-append_left (map first_word (values_of z.world)) (0 ∷ []) k (first_word x) (get-map first_word (values_of z.world) k x e))
-
-      tagged : (o : Option ℕ) (t : ℕ) → at start.tags o ≡ Some t → t ≡ 0
-      tagged None t e = absurd (none-some t e)
-      tagged (Some k) t e = zero_there (values_of z.world) k t e
-
   -- to which no step leads
-  pub opens : IsSetup g → (words : List ℕ) (slots : List Slot) → words ≡ first_words z.world → AreFirstSlots z.world z.lists slots → KeepsRule verdict z (opening words slots (first_view verdict z))
-  opens ok words slots made first = ([], opening_stands ok words slots made first)
+  pub opens : (way : CommitWay) → IsSetup g → (words : List ℕ) (slots : List Slot) → words ≡ first_words way z.world → AreSlotsAtFirst way z.world z.lists slots → KeepsRule verdict z way (opening words slots (first_view verdict z))
+  opens way ok words slots made first = ([], subst (Stands verdict z way (opening words slots (first_view verdict z))) (sym (after_none g way)) (opening_stands way ok words slots made first))
 
   -- a field with these terms keeps what a field keeps
-  pub is_field : (f : FieldOf D) → f.terms ≡ z → IsSetup g → f.table.words ≡ cells z.world + 1 → f.table.slots ≡ journal_slot z.world + 1 → IsField verdict f z.decider z.world
-  is_field f same ok words slots = record {
+  pub is_field : (way : CommitWay) (f : FieldOf D) → f.terms ≡ z → IsSetup g → f.table.words ≡ cells z.world + 1 → f.table.slots ≡ slot_count way z.world → IsField verdict way f z.decider z.world
+  is_field way f same ok words slots = record {
     run = subst (λ t. IsSetup (setup_of_terms verdict t)) (sym same) ok;
     words = words ∙ ap (λ (t : Terms D). cells t.world + 1) (sym same);
-    slots = slots ∙ ap (λ (t : Terms D). journal_slot t.world + 1) (sym same);
+    slots = slots ∙ ap (λ (t : Terms D). slot_count way t.world) (sym same);
     decider = ap (λ (t : Terms D). t.decider) same;
     world = ap (λ (t : Terms D). t.world) same;
   }
 
-  -- there are as many slots as amoebots, and one more
-  pub slots_count : (slots : List Slot) → AreFirstSlots z.world z.lists slots → length slots ≡ journal_slot z.world + 1
-  slots_count slots first =
+  -- there are as many slots as that
+  pub slots_count : (way : CommitWay) (slots : List Slot) → AreSlotsAtFirst way z.world z.lists slots → length slots ≡ slot_count way z.world
+  slots_count by_journal slots first =
       ap (λ (xs : List Slot). length xs) first.are ∙ length-append _ (slot.Journal first.journal ∷ [])
       ∙ (let s = length-map-range_with_len (λ i. slot.Cell (held_by z.world (name.Body i))) 0 (length z.world.bots) in omega (arith, s))
+  slots_count by_ticket slots first = ap (λ (xs : List Slot). length xs) first ∙ length-map (values_of z.world) (λ x. slot.Cell x) ∙ length-values z.world
 
-pub opening_is : {D : Type 0} (verdict : D → Shown → Verdict) → OpeningStands verdict
-opening_is verdict z slots ok first = opening_stands verdict z ok (first_words z.world) slots refl first
+pub opening_is : {D : Type 0} (way : CommitWay) (verdict : D → Shown → Verdict) → OpeningStands way verdict
+opening_is way verdict z slots ok first = opening_stands verdict z way ok (first_words way z.world) slots refl first

@@ -13,8 +13,9 @@ use Rattle.amoebot_state.specs.declared.verdict.Verdict.{Verdict}
 use Rattle.amoebot_state.specs.Pairs.{Pairs}
 use Rattle.amoebot_state.specs.Zones.{Shown}
 use Rattle.amoebot_state.specs.Storage.{put_at}
-use Rattle.claim_core.specs.Cells.{number, at, values_of}
-use Rattle.claim_core.specs.Machine.{Setup, State, freeing_caller, releases, by_phase, acts, next}
+use Rattle.claim_core.specs.declared.state.Phase.TheVariants.{Releasing}
+use Rattle.claim_core.specs.Cells.{number, at, values_of, cells}
+use Rattle.claim_core.specs.Machine.{Setup, State, freeing_caller, releases}
 use Rattle.claim_core.specs.Soundness.{IsSetup, IsHeld}
 use Rattle.claim_core.proofs.Nexts.{frees-marks}
 use Rattle.claim_core.proofs.Numbers.{value_at, value_held}
@@ -25,10 +26,12 @@ use Rattle.claim_rule.specs.declared.views.Slot.TheVariants as slot
 use Rattle.claim_rule.specs.declared.views.Record.{Record}
 use Rattle.claim_rule.specs.declared.views.Terms.{Terms}
 use Rattle.claim_rule.specs.Views.{Content, Seated, view_of, own, setup_of_terms}
-use Rattle.claim_rule.specs.Stands.{first_plain, slot_of, journal_slot, IsWon, AreWon, IsStamped, turns_left, AreWords, AreHomes, KeepsRule}
+use Rattle.claim_rule.specs.Manners.{CommitWay, by_journal, by_ticket, next_by, first_plain, slot_of}
+use Rattle.claim_rule.specs.Stands.{IsWon, AreWon, IsStampedBy, turns_left, AreWords, AreHomes, KeepsRule}
 use Rattle.claim_rule.specs.Plays.{but_last, released_caller, IsToFree, Releases}
 use Rattle.claim_rule.specs.Nexts.{GoesTo, IsAt}
-use Rattle.claim_rule.proofs.Tables.{slot_is, won_behind, plain_written, stamped_alike}
+use Rattle.claim_rule.proofs.Tables.{won_behind, plain_written, home_else, stamped_stays}
+use Rattle.claim_rule.proofs.WayLemmas.{shared_by, slot_is, slot_few}
 use Rattle.claim_rule.proofs.NodeReleases.{frees_won}
 use Rattle.claim_rule.specs.Words.{word_occ, word_stamp}
 use Rattle.std.proofs.lemmas.List.{get_or-set_other}
@@ -36,16 +39,26 @@ use Rattle.claim_core.specs.declared.state.Caller.{Caller}
 use Rattle.claim_rule.proofs.Moves.{sound, on, caller_at, counts, moves, my_stamps, journal_stays}
 use Rattle.claim_rule.proofs.NextsLemmas.{turns_same, allowed}
 
-module _ {D : Type 0} {verdict : D → Shown → Verdict} {z : Terms D} {s : Content D} {core : State} {seat : ℕ} {r : Record} (table : IsAt verdict z s core seat r) where
+-- what a record says of nodes' words is so without a plain cell
+released_stamped : (way : CommitWay) (g : Setup) (words : List ℕ) (r : Record) (n : CellName) (x : Cell) (held : Pairs) (i : ℕ) → number g.world.area n ≡ Some i → first_plain way g.world ≤ i → r.caller.held ≡ (n, x) ∷ held → released_caller g r.caller ≡ freeing_caller g r.caller.turn held r.caller.marks
+    → IsStampedBy way g words r → IsStampedBy way g words (record r { caller = released_caller g r.caller })
+released_stamped by_journal g words r n x held i e le is_held same is = record {
+  won = subst (λ (k : Caller). AreWon (IsWon g words k.turn k.marks) k.held r.won) (sym same) (frees_won g words r.caller.turn held r.caller.marks r.won
+      (won_behind g (IsWon g words r.caller.turn r.caller.marks) n x held r.won i e le (subst (λ (ps : Pairs). AreWon (IsWon g words r.caller.turn r.caller.marks) ps r.won) is_held is.won)));
+  noted = is.noted;
+}
+released_stamped by_ticket g words r n x held i e le is_held same is = tt
+
+module _ {D : Type 0} {verdict : D → Shown → Verdict} {z : Terms D} {way : CommitWay} {s : Content D} {core : State} {seat : ℕ} {r : Record} (table : IsAt verdict z way s core seat r) where
   abbrev g : Setup
   g = setup_of_terms verdict z
 
-  pub release_goes : (i slots : ℕ) (carried : List (ℕ × Slot)) → IsToFree verdict i (view_of z (r ∷ []), carried) → GoesTo verdict z s (next g r.number core) i seat (view_of z (r ∷ []), carried) (λ _. Releases verdict (step slots i 0 0 home.none) (view_of z (r ∷ []), carried) 0) 0
+  pub release_goes : (i slots : ℕ) (carried : List (ℕ × Slot)) → IsToFree verdict way i (view_of z (r ∷ []), carried) → GoesTo verdict z way s (next_by way g r.number core) i seat (view_of z (r ∷ []), carried) (λ _. Releases verdict (step slots i 0 0 home.none) (view_of z (r ∷ []), carried) 0) 0
   release_goes i slots carried to = (
     view_of z (record r { caller = released_caller g r.caller } ∷ []),
     gives,
     tt,
-    moves table new (next g r.number core) (on table) (released_caller g r.caller) r.won r.note (set s.words i 0) (put_back s.homes carried) leads callers refl refl fewer words homes (λ q apart rec st. still q st) mine,
+    moves table new (next_by way g r.number core) (on table) (released_caller g r.caller) r.won r.note (set s.words i 0) (put_back s.homes carried) leads callers refl refl fewer words homes (λ q apart rec st. still q st) mine,
     (refl, refl),
   )
     where
@@ -65,16 +78,16 @@ module _ {D : Type 0} {verdict : D → Shown → Verdict} {z : Terms D} {s : Con
       numbered = to.last.5
 
       at_slot : ℕ
-      at_slot = slot_of n
+      at_slot = slot_of way z.world.area n
 
-      is_i : first_plain z.world + at_slot ≡ i
-      is_i = slot_is g n i numbered to.plain
+      is_i : first_plain way z.world + at_slot ≡ i
+      is_i = slot_is way z.world n i numbered to.plain
 
-      slot_few : at_slot < journal_slot z.world
-      slot_few = let e = is_i in omega (arith, e, to.inside)
+      few_slots : first_plain way z.world + at_slot < cells z.world
+      few_slots = let e = is_i in omega (arith, e, to.inside)
 
-      still : (q : Record) → IsStamped g s.words q → IsStamped g (set s.words i 0) q
-      still q = stamped_alike g s.words (set s.words i 0) (λ k lt. let e = get_or-set_other s.words i k 0 0 (λ c. omega (arith, c, to.plain, lt)) in (ap word_occ e, ap word_stamp e)) q
+      still : (q : Record) → IsStampedBy way g s.words q → IsStampedBy way g (set s.words i 0) q
+      still q = stamped_stays way g s.words (set s.words i 0) (λ k lt. let e = get_or-set_other s.words i k 0 0 (λ c. omega (arith, c, to.plain, lt)) in (ap word_occ e, ap word_stamp e)) q
 
       inside : i < length core.tags
       inside = omega (arith, to.inside, (counts table).0)
@@ -82,18 +95,14 @@ module _ {D : Type 0} {verdict : D → Shown → Verdict} {z : Terms D} {s : Con
       new : State
       new = releases g r.number core r.caller ((n, x) ∷ held)
 
-      leads : new ≡ next g r.number core
-      leads = sym (ap (acts g r.number core) (caller_at table) ∙ ap (by_phase g r.number core r.caller) to.phase ∙ ap (releases g r.number core r.caller) is_held)
+      leads : new ≡ next_by way g r.number core
+      leads = sym (shared_by g way r.number core r.caller Releasing (caller_at table) to.phase tt ∙ ap (releases g r.number core r.caller) is_held)
 
       same : released_caller g r.caller ≡ freeing_caller g r.caller.turn held r.caller.marks
       same = ap (λ h. freeing_caller g r.caller.turn (but_last h) r.caller.marks) is_held
 
-      mine : IsStamped g (set s.words i 0) (record r { caller = released_caller g r.caller; won = r.won; note = r.note })
-      mine = record {
-        won = subst (λ (k : Caller). AreWon (IsWon g (set s.words i 0) k.turn k.marks) k.held r.won) (sym same) (frees_won g (set s.words i 0) r.caller.turn held r.caller.marks r.won
-            (won_behind g (IsWon g (set s.words i 0) r.caller.turn r.caller.marks) n x held r.won i numbered to.plain (subst (λ (ps : Pairs). AreWon (IsWon g (set s.words i 0) r.caller.turn r.caller.marks) ps r.won) is_held (still r (my_stamps table)).won)));
-        noted = (still r (my_stamps table)).noted;
-      }
+      mine : IsStampedBy way g (set s.words i 0) (record r { caller = released_caller g r.caller; won = r.won; note = r.note })
+      mine = released_stamped way g (set s.words i 0) r n x held i numbered to.plain is_held same (still r (my_stamps table))
 
       callers : new.callers ≡ set core.callers r.number (released_caller g r.caller)
       callers = ap (set core.callers r.number) (sym same)
@@ -104,8 +113,8 @@ module _ {D : Type 0} {verdict : D → Shown → Verdict} {z : Terms D} {s : Con
       tags : new.tags ≡ set core.tags i 0
       tags = ap (λ o. put_at core.tags o 0) numbered
 
-      words : AreWords g new (set s.words i 0)
-      words = plain_written g core new s.words i 0 table.stands.words to.plain to.inside inside tags refl refl refl
+      words : AreWords way g new (set s.words i 0)
+      words = plain_written way g core new s.words i 0 table.stands.words to.plain to.inside inside tags refl refl refl
 
       -- the value that the cell has in the state is the one that was recorded
       value : (y : Cell) → at core.values (number z.world.area n) ≡ Some y → x ≡ y
@@ -117,21 +126,21 @@ module _ {D : Type 0} {verdict : D → Shown → Verdict} {z : Terms D} {s : Con
       put_is : put_back s.homes carried ≡ set s.homes at_slot (home.some (slot.Cell x))
       put_is = ap (put_back s.homes) to.last.6
 
-      homes : AreHomes g new (put_back s.homes carried)
-      homes = subst (AreHomes g new) (sym put_is) (record {
+      homes : AreHomes way g new (put_back s.homes carried)
+      homes = subst (AreHomes way g new) (sym put_is) (record {
         count = length-set s.homes at_slot (home.some (slot.Cell x)) ∙ table.stands.homes.count;
-        cell = λ j y e v. elim (get-set_cases core.tags i (first_plain z.world + j) 0 0 (ap (λ ts. slice_get ts (first_plain z.world + j)) (sym tags) ∙ e)) [
+        cell = λ j y e v. elim (get-set_cases core.tags i (first_plain way z.world + j) 0 0 (ap (λ ts. slice_get ts (first_plain way z.world + j)) (sym tags) ∙ e)) [
           | inl here ↦
               let same_j : at_slot ≡ j = (let p = here.0 in let q = is_i in omega (arith, p, q)) in
               subst (λ (q : ℕ × Cell). get_elem? (set s.homes at_slot (home.some (slot.Cell x))) q.0 ≡ home.some (home.some (slot.Cell q.1))) (λ l. (same_j l, value y (ap (at core.values) numbered ∙ ap (slice_get core.values) (sym here.0) ∙ v) l))
-              (set_here s.homes at_slot (home.some (slot.Cell x)) (omega (arith, slot_few, table.stands.homes.count)))
-          | inr was ↦ set_else s.homes at_slot j (home.some (slot.Cell x)) (λ q. was.0 (ap (λ m. first_plain z.world + m) q ∙ is_i)) ∙ table.stands.homes.cell j y was.1 v
+              (set_here s.homes at_slot (home.some (slot.Cell x)) (let few = slot_few way z.world at_slot few_slots in omega (arith, few, table.stands.homes.count)))
+          | inr was ↦ set_else s.homes at_slot j (home.some (slot.Cell x)) (λ q. was.0 (ap (λ m. first_plain way z.world + m) q ∙ is_i)) ∙ table.stands.homes.cell j y was.1 v
         ];
-        journal = λ none. let was = table.stands.homes.journal none in (was.0, set_else s.homes at_slot (journal_slot z.world) (home.some (slot.Cell x)) (λ q. omega (arith, q, slot_few)) ∙ was.1, journal_stays g core new refl fewer was.0 was.2);
+        journal = home_else g way core new s.homes at_slot (home.some (slot.Cell x)) few_slots refl (journal_stays g core new refl fewer) table.stands.homes.journal;
       })
 
-module _ {D : Type 0} (verdict : D → Shown → Verdict) (z : Terms D) (ok : IsSetup (setup_of_terms verdict z)) where
-  pub release_allowed : (slots seat : ℕ) (me : Seated D) (i : ℕ) → me.0 ≡ view_of z (own me.0 ∷ []) → IsToFree verdict i me → Allows (KeepsRule verdict z) slots seat me i (λ _. 0) (λ _. Releases verdict (step slots i 0 0 home.none) me 0)
+module _ {D : Type 0} (verdict : D → Shown → Verdict) (z : Terms D) (way : CommitWay) (ok : IsSetup (setup_of_terms verdict z)) where
+  pub release_allowed : (slots seat : ℕ) (me : Seated D) (i : ℕ) → me.0 ≡ view_of z (own me.0 ∷ []) → IsToFree verdict way i me → Allows (KeepsRule verdict z way) slots seat me i (λ _. 0) (λ _. Releases verdict (step slots i 0 0 home.none) me 0)
   release_allowed slots seat me i one to =
-      allowed verdict z ok slots seat me i (λ _. 0) (IsToFree verdict i) (λ m _. Releases verdict (step slots i 0 0 home.none) m 0) one to
+      allowed verdict z way ok slots seat me i (λ _. 0) (IsToFree verdict way i) (λ m _. Releases verdict (step slots i 0 0 home.none) m 0) one to
       (λ s core r table fact. inl (release_goes table i slots me.1 fact))

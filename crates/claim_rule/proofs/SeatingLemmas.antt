@@ -9,12 +9,13 @@ use Rattle.atomic_table.specs.Table.{Splits, Joins}
 use Rattle.atomic_table.proofs.Lists.{at_set, set_here, set_else, at_longer, at_last}
 use Rattle.amoebot_state.specs.declared.verdict.Verdict.{Verdict}
 use Rattle.amoebot_state.specs.Zones.{Shown}
-use Rattle.claim_core.specs.Machine.{State, after}
+use Rattle.claim_core.specs.Machine.{State}
 use Rattle.claim_core.proofs.Places.{get-append_left, get-append_right}
 use Rattle.claim_rule.specs.declared.views.Record.{Record}
 use Rattle.claim_rule.specs.declared.views.Terms.{Terms}
 use Rattle.claim_rule.specs.declared.views.View.{View}
 use Rattle.claim_rule.specs.Views.{Content, view_of, setup_of_terms}
+use Rattle.claim_rule.specs.Manners.{CommitWay, after_by}
 use Rattle.claim_rule.specs.Stands.{HasRecord, Stands, KeepsRule}
 use Rattle.claim_rule.specs.Seating.{spent}
 use Rattle.claim_rule.specs.Internal.{dealt, left_view, joined_view}
@@ -47,14 +48,14 @@ in_either (x ∷ xs) ys (suc j) y e = elim (in_either xs ys j y e) [
 none_there : {D : Type 0} (v : View D) (j : ℕ) (q : Record) → v.records ≡ [] → slice_get v.records j ≡ Some q → ⊥
 none_there v j q none e = none-some q (ap (λ (rs : List Record). slice_get rs j) (sym none) ∙ e)
 
-module _ {D : Type 0} (verdict : D → Shown → Verdict) (z : Terms D) where
+module _ {D : Type 0} (verdict : D → Shown → Verdict) (z : Terms D) (way : CommitWay) where
   -- other views that have the same records, each once
-  reseated : (s : Content D) (core : State) (views : List (View D)) → Stands verdict z s core
+  reseated : (s : Content D) (core : State) (views : List (View D)) → Stands verdict z way s core
       → ((d j : ℕ) (v : View D) (q : Record) → get_elem? views d ≡ home.some v → slice_get v.records j ≡ Some q → v.terms ≡ Some z)
       → ((d j : ℕ) (q : Record) → HasRecord views d j q → (e k : ℕ) × HasRecord s.views e k q)
       → ((d j : ℕ) (q : Record) → HasRecord s.views d j q → (e k : ℕ) × HasRecord views e k q)
       → ((d j e k : ℕ) (q p : Record) → HasRecord views d j q → HasRecord views e k p → q.number ≡ p.number → (d ≡ e) × (j ≡ k))
-      → Stands verdict z (record { words = s.words; homes = s.homes; views = views }) core
+      → Stands verdict z way (record { words = s.words; homes = s.homes; views = views }) core
   reseated s core views st terms back forth one = record {
     words = st.words;
     homes = st.homes;
@@ -70,7 +71,7 @@ module _ {D : Type 0} (verdict : D → Shown → Verdict) (z : Terms D) where
   }
 
   -- the first record goes to a new seat
-  module _ (s : Content D) (core : State) (st : Stands verdict z s core) (seat : ℕ) (r : Record) (rs : List Record) (there : get_elem? s.views seat ≡ home.some (view_of z (r ∷ rs))) where
+  module _ (s : Content D) (core : State) (st : Stands verdict z way s core) (seat : ℕ) (r : Record) (rs : List Record) (there : get_elem? s.views seat ≡ home.some (view_of z (r ∷ rs))) where
     abbrev two : List (View D)
     two = set s.views seat (view_of z rs) ++ view_of z (r ∷ []) ∷ []
 
@@ -135,16 +136,16 @@ module _ {D : Type 0} (verdict : D → Shown → Verdict) (z : Terms D) where
     ]
 
   -- the table stands for the same state,
-  pub same_split : (core : State) (seat : ℕ) (r : Record) (rs : List Record) → Splits (λ (s : Content D). Stands verdict z s core) seat (view_of z (r ∷ rs)) (view_of z rs) (view_of z (r ∷ []))
+  pub same_split : (core : State) (seat : ℕ) (r : Record) (rs : List Record) → Splits (λ (s : Content D). Stands verdict z way s core) seat (view_of z (r ∷ rs)) (view_of z rs) (view_of z (r ∷ []))
   same_split core seat r rs s st there =
       reseated s core (two s core st seat r rs there) st (split_terms s core st seat r rs there) (split_back s core st seat r rs there) (split_forth s core st seat r rs there) (split_one s core st seat r rs there)
 
   -- and the rule is kept
-  pub splits : (seat : ℕ) (r : Record) (rs : List Record) → Splits (KeepsRule verdict z) seat (view_of z (r ∷ rs)) (view_of z rs) (view_of z (r ∷ []))
-  splits seat r rs s h there = (h.0, same_split (after (setup_of_terms verdict z) h.0) seat r rs s h.1 there)
+  pub splits : (seat : ℕ) (r : Record) (rs : List Record) → Splits (KeepsRule verdict z way) seat (view_of z (r ∷ rs)) (view_of z rs) (view_of z (r ∷ []))
+  splits seat r rs s h there = (h.0, same_split (after_by way (setup_of_terms verdict z) h.0) seat r rs s h.1 there)
 
   -- the records of another seat come in behind the own
-  module _ (s : Content D) (core : State) (st : Stands verdict z s core) (seat other : ℕ) (rs qs : List Record) (there : get_elem? s.views seat ≡ home.some (view_of z rs)) (apart : ¬ (other ≡ seat)) (there' : get_elem? s.views other ≡ home.some (view_of z qs)) where
+  module _ (s : Content D) (core : State) (st : Stands verdict z way s core) (seat other : ℕ) (rs qs : List Record) (there : get_elem? s.views seat ≡ home.some (view_of z rs)) (apart : ¬ (other ≡ seat)) (there' : get_elem? s.views other ≡ home.some (view_of z qs)) where
     abbrev all : List (View D)
     all = set (set s.views seat (view_of z (rs ++ qs))) other spent
 
@@ -210,24 +211,24 @@ module _ {D : Type 0} (verdict : D → Shown → Verdict) (z : Terms D) where
       ]
     ]
 
-  pub same_join : (core : State) (seat other : ℕ) (rs qs : List Record) → Joins (λ (s : Content D). Stands verdict z s core) seat (view_of z rs) other (view_of z qs) (view_of z (rs ++ qs)) spent
+  pub same_join : (core : State) (seat other : ℕ) (rs qs : List Record) → Joins (λ (s : Content D). Stands verdict z way s core) seat (view_of z rs) other (view_of z qs) (view_of z (rs ++ qs)) spent
   same_join core seat other rs qs s st there apart there' =
       let was : get_elem? s.views other ≡ home.some (view_of z qs) = sym (set_else s.views seat other (view_of z (rs ++ qs)) apart) ∙ there' in
       reseated s core (all s core st seat other rs qs there apart was) st (join_terms s core st seat other rs qs there apart was) (join_back s core st seat other rs qs there apart was) (join_forth s core st seat other rs qs there apart was)
       (join_one s core st seat other rs qs there apart was)
 
-  pub joins : (seat other : ℕ) (rs qs : List Record) → Joins (KeepsRule verdict z) seat (view_of z rs) other (view_of z qs) (view_of z (rs ++ qs)) spent
-  joins seat other rs qs s h there apart there' = (h.0, same_join (after (setup_of_terms verdict z) h.0) seat other rs qs s h.1 there apart there')
+  pub joins : (seat other : ℕ) (rs qs : List Record) → Joins (KeepsRule verdict z way) seat (view_of z rs) other (view_of z qs) (view_of z (rs ++ qs)) spent
+  joins seat other rs qs s h there apart there' = (h.0, same_join (after_by way (setup_of_terms verdict z) h.0) seat other rs qs s h.1 there apart there')
 
   -- the same of a view that is one with such records
-  pub splits_view : (seat : ℕ) (v : View D) (r : Record) (rs : List Record) → v ≡ view_of z (r ∷ rs) → Splits (KeepsRule verdict z) seat v (left_view v) (dealt v)
-  splits_view seat v r rs is = subst (λ (w : View D). Splits (KeepsRule verdict z) seat w (left_view w) (dealt w)) (sym is) (splits seat r rs)
+  pub splits_view : (seat : ℕ) (v : View D) (r : Record) (rs : List Record) → v ≡ view_of z (r ∷ rs) → Splits (KeepsRule verdict z way) seat v (left_view v) (dealt v)
+  splits_view seat v r rs is = subst (λ (w : View D). Splits (KeepsRule verdict z way) seat w (left_view w) (dealt w)) (sym is) (splits seat r rs)
 
-  pub joins_views : (seat other : ℕ) (v w : View D) (rs qs : List Record) → v ≡ view_of z rs → w ≡ view_of z qs → Joins (KeepsRule verdict z) seat v other w (joined_view v w) spent
-  joins_views seat other v w rs qs is is' = subst (λ (a : View D). Joins (KeepsRule verdict z) seat a other w (joined_view a w) spent) (sym is) (subst (λ (b : View D). Joins (KeepsRule verdict z) seat (view_of z rs) other b (joined_view (view_of z rs) b) spent) (sym is') (joins seat other rs qs))
+  pub joins_views : (seat other : ℕ) (v w : View D) (rs qs : List Record) → v ≡ view_of z rs → w ≡ view_of z qs → Joins (KeepsRule verdict z way) seat v other w (joined_view v w) spent
+  joins_views seat other v w rs qs is is' = subst (λ (a : View D). Joins (KeepsRule verdict z way) seat a other w (joined_view a w) spent) (sym is) (subst (λ (b : View D). Joins (KeepsRule verdict z way) seat (view_of z rs) other b (joined_view (view_of z rs) b) spent) (sym is') (joins seat other rs qs))
 
-pub split_changes_nothing : {D : Type 0} (verdict : D → Shown → Verdict) → SplitChangesNothing verdict
-split_changes_nothing verdict z core seat r rs s st there = same_split verdict z core seat r rs s st there
+pub split_changes_nothing : {D : Type 0} (way : CommitWay) (verdict : D → Shown → Verdict) → SplitChangesNothing way verdict
+split_changes_nothing way verdict z core seat r rs s st there = same_split verdict z way core seat r rs s st there
 
-pub join_changes_nothing : {D : Type 0} (verdict : D → Shown → Verdict) → JoinChangesNothing verdict
-join_changes_nothing verdict z core seat other rs qs s st there apart there' = same_join verdict z core seat other rs qs s st there apart there'
+pub join_changes_nothing : {D : Type 0} (way : CommitWay) (verdict : D → Shown → Verdict) → JoinChangesNothing way verdict
+join_changes_nothing way verdict z core seat other rs qs s st there apart there' = same_join verdict z way core seat other rs qs s st there apart there'

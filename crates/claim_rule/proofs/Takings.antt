@@ -26,7 +26,8 @@ use Rattle.claim_rule.specs.declared.views.Slot.TheVariants as slot
 use Rattle.claim_rule.specs.declared.views.Record.{Record}
 use Rattle.claim_rule.specs.declared.views.Terms.{Terms}
 use Rattle.claim_rule.specs.Views.{Content, Seated, view_of, own, setup_of_terms}
-use Rattle.claim_rule.specs.Stands.{first_plain, journal_slot, turns_left, IsCoreJournal, HasCommitted, AreWords, AreHomes, KeepsRule}
+use Rattle.claim_rule.specs.Manners.{by_journal, first_plain}
+use Rattle.claim_rule.specs.Stands.{journal_slot, turns_left, IsCoreJournal, HasCommitted, AreWords, AreHomes, KeepsRule}
 use Rattle.claim_rule.specs.Commits.{Takes, HasRoomForEntry, IsTakenElsewhere, with_journal, took}
 use Rattle.claim_rule.specs.Nexts.{GoesTo, IsAt}
 use Rattle.claim_rule.proofs.Tables.{journal_written, journal_else, stamped_alike}
@@ -53,7 +54,7 @@ made_odd n o = by o (or_block 1 n 0 (option_len o) 1 (small o) (omega arith))
     by None e = ap (λ (x : ℕ). bit_or x 1) (let q : 2 * n + 0 ≡ n * 2 ^ 1 + 0 = omega arith in q) ∙ (e ∙ (ap (λ (m : ℕ). m * 2 ^ 1 + 1) (or_zero_r n) ∙ (let q : n * 2 ^ 1 + 1 ≡ 2 * n + 1 = omega arith in q)))
     by (Some c) e = ap (λ (x : ℕ). bit_or x 1) (let q : 2 * n + 1 ≡ n * 2 ^ 1 + 1 = omega arith in q) ∙ (e ∙ (ap (λ (m : ℕ). m * 2 ^ 1 + 1) (or_zero_r n) ∙ (let q : n * 2 ^ 1 + 1 ≡ 2 * n + 1 = omega arith in q)))
 
-module _ {D : Type 0} {verdict : D → Shown → Verdict} {z : Terms D} {s : Content D} {core : State} {seat : ℕ} {r : Record} (table : IsAt verdict z s core seat r) where
+module _ {D : Type 0} {verdict : D → Shown → Verdict} {z : Terms D} {s : Content D} {core : State} {seat : ℕ} {r : Record} (table : IsAt verdict z by_journal s core seat r) where
   abbrev g : Setup
   g = setup_of_terms verdict z
 
@@ -64,10 +65,10 @@ module _ {D : Type 0} {verdict : D → Shown → Verdict} {z : Terms D} {s : Con
   old = slice_index s.words last
 
   abbrev Goes : Type 0
-  Goes = (slots : ℕ) (carried : List (ℕ × Slot)) → GoesTo verdict z s (next g r.number core) last seat (view_of z (r ∷ []), carried) (took verdict (step slots last 1 0 home.none) (view_of z (r ∷ []), carried)) (bit_or old 1)
+  Goes = (slots : ℕ) (carried : List (ℕ × Slot)) → GoesTo verdict z by_journal s (next g r.number core) last seat (view_of z (r ∷ []), carried) (took verdict (step slots last 1 0 home.none) (view_of z (r ∷ []), carried)) (bit_or old 1)
 
   still : (x : ℕ) (q : Record) → IsStamped g s.words q → IsStamped g (set s.words last x) q
-  still x q = stamped_alike g s.words (set s.words last x) (λ k lt. (ap word_occ (journal_else g s.words x k lt), ap word_stamp (journal_else g s.words x k lt))) q
+  still x q = stamped_alike g s.words (set s.words last x) (λ k lt. (ap word_occ (journal_else by_journal g s.words x k lt), ap word_stamp (journal_else by_journal g s.words x k lt))) q
 
   module _ (change : Change) (p : r.caller.phase ≡ Taking change) where
     leads_by : (o : Option ℕ) → core.holder ≡ o → next g r.number core ≡ machine.takes g r.number core r.caller change o
@@ -101,8 +102,8 @@ module _ {D : Type 0} {verdict : D → Shown → Verdict} {z : Terms D} {s : Con
         word_stays : bit_or old 1 ≡ old
         word_stays = ap (λ x. bit_or x 1) (word_is (Some d) e) ∙ made_odd (length core.journal) (Some d) ∙ sym (word_is (Some d) e)
 
-        words : AreWords g core (set s.words last (bit_or old 1))
-        words = journal_written g core core s.words (bit_or old 1) table.stands.words refl (λ k none. refl) (omega arith) (word_stays ∙ table.stands.words.journal)
+        words : AreWords by_journal g core (set s.words last (bit_or old 1))
+        words = journal_written by_journal g core core s.words (bit_or old 1) table.stands.words refl (λ k none. refl) (omega arith) (word_stays ∙ table.stands.words.journal)
 
     -- nobody has it
     hits : core.holder ≡ None → Goes
@@ -136,14 +137,14 @@ module _ {D : Type 0} {verdict : D → Shown → Verdict} {z : Terms D} {s : Con
         room : HasRoomForEntry j
         room = record { some = omega (arith, left, has.2.room); few = omega (arith, left, table.stands.few, ap (λ (es : List _). length es) has.2.entries) }
 
-        words : AreWords g new (set s.words last (bit_or old 1))
-        words = journal_written g core new s.words (bit_or old 1) table.stands.words refl (λ k none. refl) (omega arith) (ap (λ x. bit_or x 1) (word_is None e) ∙ made_odd (length core.journal) None)
+        words : AreWords by_journal g new (set s.words last (bit_or old 1))
+        words = journal_written by_journal g core new s.words (bit_or old 1) table.stands.words refl (λ k none. refl) (omega arith) (ap (λ x. bit_or x 1) (word_is None e) ∙ made_odd (length core.journal) None)
 
-        homes : AreHomes g new (set s.homes (journal_slot z.world) home.none)
+        homes : AreHomes by_journal g new (set s.homes (journal_slot z.world) home.none)
         homes = record {
           count = length-set s.homes (journal_slot z.world) home.none ∙ table.stands.homes.count;
           cell = λ i x free value.
-              set_else s.homes (journal_slot z.world) i home.none (λ q. let lt = slice_get_within core.tags (first_plain z.world + i) 0 free in omega (arith, q, lt, (counts table).0)) ∙ table.stands.homes.cell i x free value;
+              set_else s.homes (journal_slot z.world) i home.none (λ q. let lt = slice_get_within core.tags (first_plain by_journal z.world + i) 0 free in omega (arith, q, lt, (counts table).0)) ∙ table.stands.homes.cell i x free value;
           journal = λ none. absurd (none-some r.number (sym none));
         }
 
@@ -164,7 +165,7 @@ module _ {D : Type 0} {verdict : D → Shown → Verdict} {z : Terms D} {s : Con
   take_goes to = by_holder to.0 to.1 core.holder refl
 
 module _ {D : Type 0} (verdict : D → Shown → Verdict) (z : Terms D) (ok : IsSetup (setup_of_terms verdict z)) where
-  pub take_allowed : (slots seat : ℕ) (me : Seated D) → me.0 ≡ view_of z (own me.0 ∷ []) → Takes (own me.0).caller.phase → Allows (KeepsRule verdict z) slots seat me (cells z.world) (λ x. bit_or x 1) (took verdict (step slots (cells z.world) 1 0 home.none) me)
+  pub take_allowed : (slots seat : ℕ) (me : Seated D) → me.0 ≡ view_of z (own me.0 ∷ []) → Takes (own me.0).caller.phase → Allows (KeepsRule verdict z by_journal) slots seat me (cells z.world) (λ x. bit_or x 1) (took verdict (step slots (cells z.world) 1 0 home.none) me)
   take_allowed slots seat me one to =
-      allowed verdict z ok slots seat me (cells z.world) (λ x. bit_or x 1) (λ m. Takes (own m.0).caller.phase) (took verdict (step slots (cells z.world) 1 0 home.none)) one to
+      allowed verdict z by_journal ok slots seat me (cells z.world) (λ x. bit_or x 1) (λ m. Takes (own m.0).caller.phase) (took verdict (step slots (cells z.world) 1 0 home.none)) one to
       (λ s core r table fact. inl (take_goes table fact slots me.1))

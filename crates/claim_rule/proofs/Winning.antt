@@ -17,6 +17,7 @@ use Rattle.claim_rule.specs.declared.views.Note.{Note}
 use Rattle.claim_rule.specs.Words.{word_tag, word_occ, word_stamp}
 use Rattle.claim_rule.specs.Views.{Seated, own, like, with_note, seen}
 use Rattle.claim_rule.specs.Plays.{IsKnown, IsOthers, IsToTryNode, IsToWin, LooksAt, TriesNode, StopsAt, NotesWord, WinsNode, about, bot_in, note_of, with_node, refused_at}
+use Rattle.claim_rule.specs.Manners.{by_journal}
 use Rattle.claim_rule.specs.Tokens.{unnoted, IsActivation, IsClaiming, IsNoting, IsStopped}
 use Rattle.claim_rule.proofs.ActivationLemmas.{bot_same, next_same, with_held, stops, wins_node, to_try}
 
@@ -24,12 +25,12 @@ same_spot : (u v : Node) → name.Spot u ≡ name.Spot v → u ≡ v
 same_spot u v e = cc
 
 module _ {D : Type 0} (verdict : D → Shown → Verdict) (c t b : ℕ) (s : Bool) (bare : Config) (pairs : Pairs) (notes : List Note) (v : Node) where
-  module _ (m : Seated D) (is : IsActivation verdict m c t b s bare pairs notes) (cl : IsClaiming verdict m t b pairs) (nx : next_of (about verdict m.0) b pairs ≡ Some (name.Spot v)) where
+  module _ (m : Seated D) (is : IsActivation verdict by_journal m c t b s bare pairs notes) (cl : IsClaiming verdict m t b pairs) (nx : next_of (about verdict m.0) b pairs ≡ Some (name.Spot v)) where
     abbrev g : Setup
     g = about verdict m.0
 
     its_next : next_of g (bot_in verdict m.0) (own m.0).caller.held ≡ Some (name.Spot v)
-    its_next = next_same verdict m c t b s bare pairs notes is cl.turn ∙ nx
+    its_next = next_same verdict by_journal m c t b s bare pairs notes is cl.turn ∙ nx
 
     is_node : (u : Node) → next_of g (bot_in verdict m.0) (own m.0).caller.held ≡ Some (name.Spot u) → u ≡ v
     is_node u e = same_spot u v (same_Some (name.Spot u) (name.Spot v) (sym e ∙ its_next))
@@ -48,7 +49,7 @@ module _ {D : Type 0} (verdict : D → Shown → Verdict) (c t b : ℕ) (s : Boo
         noting : IsNoting verdict (with w) c t b s bare pairs notes v w
         noting = record {
           alone = refl;
-          activation = with_held verdict m c t b s bare pairs notes is s (with_note (own m.0) None) m.1 pairs notes is.few is.number is.taken is.held is.placed is.won refl is.nodes is.out;
+          activation = with_held verdict by_journal m c t b s bare pairs notes is s (with_note (own m.0) None) m.1 pairs notes is.few is.number is.taken is.held is.placed is.won refl is.nodes is.out;
           claiming = record { turn = cl.turn; counted = cl.counted; phase = cl.phase; known = cl.known };
           note = refl;
           next = nx;
@@ -57,8 +58,8 @@ module _ {D : Type 0} (verdict : D → Shown → Verdict) (c t b : ℕ) (s : Boo
         }
 
     -- another caller's tag was found
-    pub stopped : (w : ℕ) (m' : Seated D) → StopsAt verdict m w m' → IsActivation verdict m' c t b s bare pairs notes × IsStopped verdict m' c t b pairs
-    stopped w m' n = stops verdict m c t b s bare pairs notes is m' (name.Spot n.node) (word_tag w) cl n.next n.now n.out n.other
+    pub stopped : (w : ℕ) (m' : Seated D) → StopsAt verdict m w m' → IsActivation verdict by_journal m' c t b s bare pairs notes × IsStopped verdict m' c t b pairs
+    stopped w m' n = stops verdict by_journal m c t b s bare pairs notes is m' (name.Spot n.node) (word_tag w) cl n.next n.now n.out n.other
 
     -- and contracts see the refusal at this node
     pub seen_stopped : (w : ℕ) (m' : Seated D) → StopsAt verdict m w m' → seen m'.0 ≡ seen (like m.0 (refused_at (own m.0) v (word_tag w) ∷ []))
@@ -85,7 +86,7 @@ module _ {D : Type 0} (verdict : D → Shown → Verdict) (c t b : ℕ) (s : Boo
 
     module _ (i put slots again : ℕ) (m' : Seated D) (told : TriesNode verdict (step slots i w put home.none) m again m') where
       -- the noted word was found, and the node is won
-      pub wins_it : again ≡ w → IsActivation verdict m' c t b s bare ((name.Spot v, cell.Spot (word_occ w)) ∷ pairs) (note_of v w ∷ notes) × IsClaiming verdict m' t b ((name.Spot v, cell.Spot (word_occ w)) ∷ pairs)
+      pub wins_it : again ≡ w → IsActivation verdict by_journal m' c t b s bare ((name.Spot v, cell.Spot (word_occ w)) ∷ pairs) (note_of v w ∷ notes) × IsClaiming verdict m' t b ((name.Spot v, cell.Spot (word_occ w)) ∷ pairs)
       wins_it hit =
           wins_node verdict (unnoted m) c t b s bare pairs notes is.activation m' v (note_of v w) refl is.few is.claiming (its_next (unnoted m) is.activation is.claiming is.next)
           (won.now ∙ ap (λ (u : Note). like m.0 (with_node h (own m.0) u ∷ [])) same) won.out
@@ -118,7 +119,7 @@ module _ {D : Type 0} (verdict : D → Shown → Verdict) (c t b : ℕ) (s : Boo
           (all.0, all.1, n.1, n.0.few)
 
       -- another caller's tag was found
-      pub stopped_again : word_tag again ≢ 0 → IsActivation verdict m' c t b s bare pairs notes × IsStopped verdict m' c t b pairs × (seen m'.0 ≡ seen (like m.0 (refused_at (own m.0) v (word_tag again) ∷ []))) × IsOthers h (own m.0).number (word_tag again)
+      pub stopped_again : word_tag again ≢ 0 → IsActivation verdict by_journal m' c t b s bare pairs notes × IsStopped verdict m' c t b pairs × (seen m'.0 ≡ seen (like m.0 (refused_at (own m.0) v (word_tag again) ∷ []))) × IsOthers h (own m.0).number (word_tag again)
       stopped_again held =
           let n = told.1 held in
           let all = stopped (unnoted m) is.activation is.claiming is.next again m' (like_stopped n) in

@@ -11,23 +11,30 @@ use Rattle.claim_core.specs.declared.marks.Mark.{Mark}
 use Rattle.claim_core.specs.declared.report.Report.{Report}
 use Rattle.claim_core.specs.Turns.{Kept}
 use Rattle.claim_core.specs.Good.{Order, AreMarksSoFar}
-use Rattle.claim_core.specs.Machine.{after}
 use Rattle.claim_core.specs.Reached.{HasValues}
 use Rattle.claim_rule.specs.declared.views.Terms.{Terms}
 use Rattle.claim_rule.specs.Views.{setup_of_terms}
+use Rattle.claim_rule.specs.Manners.{CommitWay, after_by}
 use Rattle.claim_rule.specs.Stands.{IsRecord}
 use Rattle.claim_rule.specs.Tokens.{Token, record_in, number_in, doing}
 
 -- steps of the callers, the last one first, lead from the opening to a state in which what each seat knows is so, of its caller and of
 -- the entries that the caller committed, with this journal and, in its cells, the values of this world
-pub record ClosesAs {D : Type 0} (verdict : D → Shown → Verdict) (z : Terms D)
+pub record ClosesAs {D : Type 0} (way : CommitWay) (verdict : D → Shown → Verdict) (z : Terms D)
     (seats : List (Option (Token D))) (world : Config) (journal : Kept) : Type 0 where
   pub steps : List ℕ
   pub callers : (c : ℕ) (t : Token D) → slice_get seats c ≡ Some (Some t)
-      → (number_in t ≡ c) × IsRecord (setup_of_terms verdict z) (after (setup_of_terms verdict z) steps) (record_in t)
+      → (number_in t ≡ c) × IsRecord (setup_of_terms verdict z) (after_by way (setup_of_terms verdict z) steps) (record_in t)
   pub first : journal.first ≡ z.world
-  pub entries : journal.entries ≡ (after (setup_of_terms verdict z) steps).journal
-  pub values : HasValues (setup_of_terms verdict z) (after (setup_of_terms verdict z) steps) world
+  pub entries : journal.entries ≡ (after_by way (setup_of_terms verdict z) steps).journal
+  pub values : HasValues (setup_of_terms verdict z) (after_by way (setup_of_terms verdict z) steps) world
+
+-- steps of the callers lead from the opening to a state in which what each seat knows is so
+pub record LeavesAs {D : Type 0} (way : CommitWay) (verdict : D → Shown → Verdict) (z : Terms D)
+    (seats : List (Option (Token D))) : Type 0 where
+  pub steps : List ℕ
+  pub callers : (c : ℕ) (t : Token D) → slice_get seats c ≡ Some (Some t)
+      → (number_in t ≡ c) × IsRecord (setup_of_terms verdict z) (after_by way (setup_of_terms verdict z) steps) (record_in t)
 
 -- the seats that are there hold nothing
 abbrev pub HoldNothing : {D : Type 0} → List (Option (Token D)) → Type 0

@@ -111,3 +111,13 @@ module _ {D : Type 0} (verdict : D → Shown → Verdict) where
 
   abbrev pub stored : Step Slot → Seated D → ℕ → Seated D → Type 0
   stored st m t m' = ((place : ℕ) × Commits m.0 m'.0 place) × (m'.1 ≡ rest m.1)
+
+  -- the caller's change is committed at this place, and nothing was taken for it
+  pub record Draws (v w : View D) (place : ℕ) : Type 0 where
+    pub change : Change
+    pub phase : (own v).caller.phase ≡ Taking change
+    pub now : w ≡ like v (with_commit (about verdict v) (own v) change place ∷ [])
+
+  -- the word that was found is the place, and is below 65,536
+  abbrev pub drew : Step Slot → Seated D → ℕ → Seated D → Type 0
+  drew st m t m' = Draws m.0 m'.0 t × (m'.1 ≡ m.1) × (t < most_turns)

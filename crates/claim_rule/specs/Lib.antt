@@ -1,5 +1,6 @@
 pub mod Words
 pub mod Views
+pub mod Manners
 pub mod Stands
 pub mod Plays
 pub mod Commits

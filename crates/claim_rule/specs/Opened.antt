@@ -18,16 +18,19 @@ use Rattle.claim_rule.specs.declared.views.Terms.{Terms}
 use Rattle.claim_rule.specs.Words.{node_word}
 use Rattle.claim_rule.specs.Views.{setup_of_terms, view_of}
 use Rattle.claim_rule.specs.Tokens.{FieldOf, Token}
+use Rattle.claim_rule.specs.Manners.{CommitWay, by_journal, by_ticket}
 use Rattle.claim_rule.specs.Stands.{records_from}
 use Rattle.claim_rule.specs.Seating.{SeatsOf}
 
--- the words at the start: each node's has its occupant, no tag and stamp 0, and those of the bodies and of the journal are 0
-abbrev pub first_word : Cell → ℕ
-first_word (cell.Spot o) = node_word 0 o 0
-first_word (cell.Body b) = 0
+-- the words at the start: each that nodes have has the occupant, no tag and stamp 0, and those of the plain cells and of the journal
+-- are 0
+abbrev pub first_word : CommitWay → Cell → ℕ
+first_word by_journal (cell.Spot o) = node_word 0 o 0
+first_word by_journal (cell.Body b) = 0
+first_word by_ticket x = 0
 
-abbrev pub first_words : Config → List ℕ
-first_words world = map first_word (values_of world) ++ 0 ∷ []
+abbrev pub first_words : CommitWay → Config → List ℕ
+first_words way world = map (first_word way) (values_of world) ++ 0 ∷ []
 
 -- the slots at the start: what each body's cell holds, by the ids, and then a journal with no entry and room for all turns
 pub record AreFirstSlots (world : Config) (lists : CallerLists) (slots : List Slot) : Type 0 where
@@ -37,6 +40,11 @@ pub record AreFirstSlots (world : Config) (lists : CallerLists) (slots : List Sl
   pub first : journal.first ≡ world
   pub entries : journal.entries ≡ []
   pub room : length lists.ids * lists.turns ≤ journal.spare
+
+-- so they are by journal; and by tickets what each cell holds, by the numbers
+abbrev pub AreSlotsAtFirst : CommitWay → Config → CallerLists → List Slot → Type 0
+AreSlotsAtFirst by_journal world lists slots = AreFirstSlots world lists slots
+AreSlotsAtFirst by_ticket world lists slots = slots ≡ map (λ x. slot.Cell x) (values_of world)
 
 module _ {D : Type 0} where
   -- the seat of a field that has one record

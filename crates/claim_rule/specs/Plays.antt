@@ -1,5 +1,5 @@
 -- What each step tells the seat that makes it: how its record changes, and nothing else.
-use Rattle.std.specs.Prelude.{◌≡◌, ◌≢◌, ℕ, ◌+◌, ◌/◌, ◌<◌, ◌≤◌, List, [], ◌∷◌, ◌++◌, reverse, length, slice_get, unwrap_or}
+use Rattle.std.specs.Prelude.{◌≡◌, ◌≢◌, ℕ, ◌+◌, ◌<◌, ◌≤◌, List, [], ◌∷◌, ◌++◌, reverse, length, slice_get, unwrap_or}
 use Rattle.std.specs.declared.option.Option.{Option}
 use Rattle.std.specs.declared.option.Option.TheVariants.{Some, None}
 use Rattle.atomic_table.specs.Table.{Step, rest}
@@ -30,7 +30,7 @@ use Rattle.claim_rule.specs.declared.views.Note.{Note}
 use Rattle.claim_rule.specs.declared.views.Record.{Record}
 use Rattle.claim_rule.specs.Words.{node_word, word_tag, word_occ, word_stamp}
 use Rattle.claim_rule.specs.Views.{Seated, own, like, with_note, goes_on, setup_at}
-use Rattle.claim_rule.specs.Stands.{first_plain, slot_of}
+use Rattle.claim_rule.specs.Manners.{CommitWay, length_in, first_plain, slot_of}
 
 -- a cell of the area or of an amoebot that is there, by its number
 abbrev pub IsPlaced : Setup → CellName → ℕ → Type 0
@@ -138,18 +138,18 @@ module _ {D : Type 0} (verdict : D → Shown → Verdict) where
   tried v = unwrap_or (next_of (about v) (bot_in v) (own v).caller.held) (name.Body 0)
 
   -- the caller tries the plain cell with this number next, for its turn's tag
-  pub record IsToTry (i t : ℕ) (v : View D) : Type 0 where
+  pub record IsToTry (way : CommitWay) (i t : ℕ) (v : View D) : Type 0 where
     pub phase : (own v).caller.phase ≡ Claim
     pub next : next_of (about v) (bot_in v) (own v).caller.held ≡ Some (tried v)
     pub placed : IsPlaced (about v) (tried v) i
-    pub plain : first_plain (about v).world ≤ i
+    pub plain : first_plain way (about v).world ≤ i
     pub tag : t ≡ own_tag (about v) (own v).number (own v).caller.turn
 
   -- the plain cell that the caller tried is won with its value, and its slot is out
-  pub record Wins (m m' : Seated D) : Type 0 where
+  pub record Wins (way : CommitWay) (m m' : Seated D) : Type 0 where
     pub value : Cell
     pub now : m'.0 ≡ goes_on m.0 (caller_with_cell (about m.0) (own m.0).number (own m.0).caller (tried m.0) value)
-    pub out : m'.1 ≡ (slot_of (tried m.0), slot.Cell value) ∷ m.1
+    pub out : m'.1 ≡ (slot_of way (about m.0).world.area (tried m.0), slot.Cell value) ∷ m.1
     pub known : IsKnown (about m.0) (bot_in m.0) ((tried m.0, value) ∷ (own m.0).caller.held)
 
   -- the claim is refused by this tag of another caller
@@ -159,8 +159,8 @@ module _ {D : Type 0} (verdict : D → Shown → Verdict) where
     pub other : IsOthers (about m.0) (own m.0).number t
 
   -- a tag of 0 was found, and the cell is won with its value; or another's was, and the claim is refused
-  abbrev pub Claims : Step Slot → Seated D → ℕ → Seated D → Type 0
-  Claims st m t m' = (t ≡ 0 → Wins m m') × (t ≢ 0 → IsRefusedAt t m m')
+  abbrev pub Claims : CommitWay → Step Slot → Seated D → ℕ → Seated D → Type 0
+  Claims way st m t m' = (t ≡ 0 → Wins way m m') × (t ≢ 0 → IsRefusedAt t m m')
 
   -- the caller tries this node next, whose word has this number
   pub record IsToTryNode (i : ℕ) (v : View D) : Type 0 where
@@ -236,19 +236,22 @@ module _ {D : Type 0} (verdict : D → Shown → Verdict) where
       × (m'.1 ≡ m.1)
 
   -- the plain cell with this number was won last, and the seat has its value to put home
-  pub record IsToFree (i : ℕ) (m : Seated D) : Type 0 where
+  pub record IsToFree (way : CommitWay) (i : ℕ) (m : Seated D) : Type 0 where
     pub phase : (own m.0).caller.phase ≡ Releasing
     pub inside : i < cells (about m.0).world
-    pub plain : first_plain (about m.0).world ≤ i
+    pub plain : first_plain way (about m.0).world ≤ i
     pub last : (n : CellName) × (x : Cell) × (held : Pairs) × (more : List (ℕ × Slot))
         × ((own m.0).caller.held ≡ (n, x) ∷ held)
         × (number (about m.0).world.area n ≡ Some i)
-        × (m.1 ≡ (slot_of n, slot.Cell x) ∷ more)
+        × (m.1 ≡ (slot_of way (about m.0).world.area n, slot.Cell x) ∷ more)
 
   -- the cell is free
   abbrev pub Releases : Step Slot → Seated D → ℕ → Seated D → Type 0
   Releases st m t m' = (m'.0 ≡ goes_on m.0 (released_caller (about m.0) (own m.0).caller)) × (m'.1 ≡ rest m.1)
 
-  -- the journal's length is half of its word, rounded down, and at most 65,536: the turn has its mark
-  abbrev pub ReadsLength : Step Slot → Seated D → ℕ → Seated D → Type 0
-  ReadsLength st m t m' = (m'.0 ≡ goes_on m.0 (marked_at (about m.0) (own m.0).caller (t / 2))) × (m'.1 ≡ m.1) × (t / 2 ≤ most_turns)
+  -- the journal's length is what its word tells, and at most 65,536: the turn has its mark
+  abbrev pub ReadsLength : CommitWay → Step Slot → Seated D → ℕ → Seated D → Type 0
+  ReadsLength way st m t m' =
+      (m'.0 ≡ goes_on m.0 (marked_at (about m.0) (own m.0).caller (length_in way t)))
+      × (m'.1 ≡ m.1)
+      × (length_in way t ≤ most_turns)

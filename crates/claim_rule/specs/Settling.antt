@@ -18,6 +18,7 @@ use Rattle.claim_rule.specs.declared.views.Slot.TheVariants as slot
 use Rattle.claim_rule.specs.declared.views.Note.{Note}
 use Rattle.claim_rule.specs.declared.views.Record.{Record}
 use Rattle.claim_rule.specs.Views.{Seated, own, like}
+use Rattle.claim_rule.specs.Manners.{by_journal}
 use Rattle.claim_rule.specs.Stands.{journal_slot}
 use Rattle.claim_rule.specs.Plays.{about}
 use Rattle.claim_rule.specs.Tokens.{Token, PlacedTurn, IsActivation, placed_turn, record_in, number_in, doing}
@@ -56,7 +57,7 @@ module _ {D : Type 0} where
     pub record IsTaken (m : Seated D) (c t b : ℕ) (stale : Bool) (w : Config) (pairs : Pairs) (notes : List Note)
         (change : Change) : Type 0 where
       pub alone : m.0.records ≡ own m.0 ∷ []
-      pub activation : IsActivation verdict (untaken m) c t b stale w pairs notes
+      pub activation : IsActivation verdict by_journal (untaken m) c t b stale w pairs notes
       pub turn : (own m.0).caller.turn ≡ t
       pub counted : length (own m.0).caller.marks ≡ t
       pub whole : next_of (about verdict m.0) b pairs ≡ None

@@ -1,9 +1,8 @@
 -- For which words, values at home and views a state of the machine stands, and the rule.
-use Rattle.std.specs.Prelude.{◌≡◌, ◌≢◌, ◌⊎◌, ℕ, ◌+◌, ◌*◌, ◌<◌, ◌≤◌, List, [], ◌∷◌, map, length, slice_get, slice_index, unwrap_or}
+use Rattle.std.specs.Prelude.{◌≡◌, ◌≢◌, ◌⊎◌, ℕ, ◌+◌, ◌<◌, ◌≤◌, List, [], ◌∷◌, map, length, slice_get, slice_index}
 use Rattle.std.specs.List.{All, Contains}
 use Rattle.std.specs.declared.option.Option.{Option}
 use Rattle.std.specs.declared.option.Option.TheVariants.{Some, None}
-use Rattle.std.specs.Option.{option_len}
 use mathlib.Core.Option as home
 use lib.ListN.{get_elem?}
 use Rattle.tri_lattice.specs.declared.node.Node.{Node}
@@ -23,7 +22,7 @@ use Rattle.claim_core.specs.Limits.{most_turns}
 use Rattle.claim_core.specs.Turns.{Kept}
 use Rattle.claim_core.specs.Cells.{number, at, cells}
 use Rattle.claim_core.specs.Good.{place_of}
-use Rattle.claim_core.specs.Machine.{Setup, State, fresh, after}
+use Rattle.claim_core.specs.Machine.{Setup, State, fresh}
 use Rattle.claim_core.specs.Reached.{entries_of, placed, IsShownAt}
 use Rattle.claim_core.specs.Cores.{unmarked}
 use Rattle.claim_rule.specs.declared.views.Slot.{Slot}
@@ -34,14 +33,11 @@ use Rattle.claim_rule.specs.declared.views.Terms.{Terms}
 use Rattle.claim_rule.specs.declared.views.View.{View}
 use Rattle.claim_rule.specs.Words.{word_tag, word_occ, word_stamp}
 use Rattle.claim_rule.specs.Views.{Content, record_of, view_of, setup_of_terms}
+use Rattle.claim_rule.specs.Manners.{CommitWay, by_journal, by_ticket, after_by, last_word, first_plain, slot_count}
 
 -- the tag of the cell with this number
 abbrev pub cell_tag : State → ℕ → ℕ
 cell_tag core k = slice_index core.tags k
-
--- the journal's word: twice its length, plus one exactly where it has a holder
-abbrev pub journal_word : State → ℕ
-journal_word core = 2 * length core.journal + option_len core.holder
 
 -- the turns of all callers that have no mark yet
 abbrev pub turns_left : Setup → State → ℕ
@@ -69,18 +65,6 @@ pub record IsRecord (g : Setup) (core : State) (r : Record) : Type 0 where
   pub caller : slice_get core.callers r.number ≡ Some r.caller
   pub committed : HasCommitted g core r.number r.committed r.taken
 
--- the number of the first cell whose word is its tag, and which has a slot: the nodes come before it, and the bodies from it on
-abbrev pub first_plain : Config → ℕ
-first_plain c = c.area.w * c.area.h
-
--- the number of the slot of a cell that has one, which is that of the cell, counted from the first plain one on
-abbrev pub slot_number : CellName → Option ℕ
-slot_number (name.Spot v) = None
-slot_number (name.Body i) = Some i
-
-abbrev pub slot_of : CellName → ℕ
-slot_of n = unwrap_or (slot_number n) 0
-
 -- the number of the journal's slot, behind those of the cells
 abbrev pub journal_slot : Config → ℕ
 journal_slot c = length c.bots
@@ -92,21 +76,26 @@ pub record IsNodeWord (core : State) (k w : ℕ) : Type 0 where
   pub stamp : word_stamp w ≤ length core.journal
 
 -- the words of the cells by their numbers, and that of the journal behind them
-pub record AreWords (g : Setup) (core : State) (words : List ℕ) : Type 0 where
+pub record AreWords (way : CommitWay) (g : Setup) (core : State) (words : List ℕ) : Type 0 where
   pub count : length words ≡ cells g.world + 1
-  pub node : (k : ℕ) → k < first_plain g.world → IsNodeWord core k (slice_index words k)
-  pub plain : (k : ℕ) → first_plain g.world ≤ k → k < cells g.world → slice_index words k ≡ cell_tag core k
-  pub journal : slice_index words (cells g.world) ≡ journal_word core
+  pub node : (k : ℕ) → k < first_plain way g.world → IsNodeWord core k (slice_index words k)
+  pub plain : (k : ℕ) → first_plain way g.world ≤ k → k < cells g.world → slice_index words k ≡ cell_tag core k
+  pub journal : slice_index words (cells g.world) ≡ last_word way core
 
--- the slots of the plain cells, and that of the journal behind them: a free cell's is at home with its value, and the journal's where
--- it has no holder
-pub record AreHomes (g : Setup) (core : State) (homes : List (home.Option Slot)) : Type 0 where
-  pub count : length homes ≡ journal_slot g.world + 1
-  pub cell : (i : ℕ) (x : Cell) → slice_get core.tags (first_plain g.world + i) ≡ Some 0
-      → slice_get core.values (first_plain g.world + i) ≡ Some x
+-- the journal's slot is at home where it has no holder; by tickets it has no slot, and nobody ever holds it
+abbrev pub IsJournalHome : CommitWay → Setup → State → List (home.Option Slot) → Type 0
+IsJournalHome by_journal g core homes =
+    core.holder ≡ None
+    → (j : Kept) × (get_elem? homes (journal_slot g.world) ≡ home.some (home.some (slot.Journal j))) × IsCoreJournal g core j
+IsJournalHome by_ticket g core homes = core.holder ≡ None
+
+-- the slots of the plain cells, and that of the journal behind them: a free cell's is at home with its value
+pub record AreHomes (way : CommitWay) (g : Setup) (core : State) (homes : List (home.Option Slot)) : Type 0 where
+  pub count : length homes ≡ slot_count way g.world
+  pub cell : (i : ℕ) (x : Cell) → slice_get core.tags (first_plain way g.world + i) ≡ Some 0
+      → slice_get core.values (first_plain way g.world + i) ≡ Some x
       → get_elem? homes i ≡ home.some (home.some (slot.Cell x))
-  pub journal : core.holder ≡ None
-      → (j : Kept) × (get_elem? homes (journal_slot g.world) ≡ home.some (home.some (slot.Journal j))) × IsCoreJournal g core j
+  pub journal : IsJournalHome way g core homes
 
 -- the node's word says what it said when the node was won; its stamp is at most the place in this turn's mark; and the node has the
 -- value with which it was won, except for a commit of this turn
@@ -134,6 +123,11 @@ pub record IsStamped (g : Setup) (words : List ℕ) (r : Record) : Type 0 where
   pub won : AreWon (IsWon g words r.caller.turn r.caller.marks) r.caller.held r.won
   pub noted : (m : Note) → r.note ≡ Some m → IsNoted g words m
 
+-- so it is where nodes have words; by tickets they have none, and each cell is plain
+abbrev pub IsStampedBy : CommitWay → Setup → List ℕ → Record → Type 0
+IsStampedBy by_journal g words r = IsStamped g words r
+IsStampedBy by_ticket g words r = Unit {0}
+
 module _ {D : Type 0} where
   -- the view of a seat has this record at a place
   abbrev pub HasRecord : List (View D) → ℕ → ℕ → Record → Type 0
@@ -159,16 +153,16 @@ module _ {D : Type 0} where
           × ((x : Cell) × Contains r.caller.held (n, x) × (at core.values (number z.world.area n) ≡ Some x))
 
     -- the table stands for the state; the entries and the turns without a mark are few
-    pub record Stands (s : Content D) (core : State) : Type 0 where
-      pub words : AreWords (setup_of_terms verdict z) core s.words
-      pub homes : AreHomes (setup_of_terms verdict z) core s.homes
+    pub record Stands (way : CommitWay) (s : Content D) (core : State) : Type 0 where
+      pub words : AreWords way (setup_of_terms verdict z) core s.words
+      pub homes : AreHomes way (setup_of_terms verdict z) core s.homes
       pub views : AreViews core s.views
-      pub stamps : (seat place : ℕ) (r : Record) → HasRecord s.views seat place r → IsStamped (setup_of_terms verdict z) s.words r
+      pub stamps : (seat place : ℕ) (r : Record) → HasRecord s.views seat place r → IsStampedBy way (setup_of_terms verdict z) s.words r
       pub few : length core.journal + turns_left (setup_of_terms verdict z) core ≤ most_turns
 
     -- the rule: it stands for a state that steps of the callers, the last one first, lead to from the opening
-    abbrev pub KeepsRule : Content D → Type 0
-    KeepsRule s = (steps : List ℕ) × Stands s (after (setup_of_terms verdict z) steps)
+    abbrev pub KeepsRule : CommitWay → Content D → Type 0
+    KeepsRule way s = (steps : List ℕ) × Stands way s (after_by way (setup_of_terms verdict z) steps)
 
     abbrev pub records_from : ℕ → List Caller → List Record
     records_from c [] = []

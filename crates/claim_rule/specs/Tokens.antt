@@ -5,11 +5,12 @@ use Rattle.std.specs.declared.option.Option.{Option}
 use Rattle.std.specs.declared.option.Option.TheVariants.{Some, None}
 use Rattle.atomic_table.specs.Seated.{TableId}
 use Rattle.tri_lattice.specs.declared.node.Node.{Node}
+use Rattle.tri_lattice.specs.Extent.{Extent}
 use Rattle.amoebot_state.specs.declared.cell.CellName.{CellName}
 use Rattle.amoebot_state.specs.declared.cell.CellName.TheVariants as name
 use Rattle.amoebot_state.specs.declared.cell.Cell.{Cell}
 use Rattle.amoebot_state.specs.declared.verdict.Verdict.{Verdict}
-use Rattle.amoebot_state.specs.Pairs.{Pairs, cell_of, nodes_in}
+use Rattle.amoebot_state.specs.Pairs.{Pairs, cell_of}
 use Rattle.amoebot_state.specs.Configs.{Config, open_frame}
 pub use Rattle.amoebot_state.specs.Configs.{frame_of}
 use Rattle.amoebot_state.specs.Known.{walls_read}
@@ -35,7 +36,7 @@ use Rattle.claim_rule.specs.declared.views.Terms.{Terms}
 use Rattle.claim_rule.specs.declared.views.View.{View}
 use Rattle.claim_rule.specs.Words.{word_tag, word_stamp}
 use Rattle.claim_rule.specs.Views.{Seated, own, like, with_note, seen, goes_on, setup_of_terms, setup_at}
-use Rattle.claim_rule.specs.Stands.{journal_slot}
+use Rattle.claim_rule.specs.Manners.{CommitWay, by_journal, by_ticket, slot_of, slot_count, noted_nodes}
 use Rattle.claim_rule.specs.Plays.{IsPlaced, IsKnown, IsOthers, note_of, about, bot_in}
 
 -- which table a field has, and what it is about
@@ -85,12 +86,16 @@ refused_of c t n by place = record {
 abbrev pub placed_turn : ℕ → ℕ → ℕ → PlacedTurn
 placed_turn c t place = record { caller = c; turn = t; place = place }
 
--- the slots of the bodies that are held are out, each with the value that is held, except where they are stale
-abbrev pub AreOut : Bool → Pairs → List (ℕ × Slot) → Type 0
-AreOut stale [] outs = outs ≡ []
-AreOut stale ((name.Spot v, x) ∷ held) outs = AreOut stale held outs
-AreOut stale ((name.Body i, x) ∷ held) outs =
-    (y : Cell) × (more : List (ℕ × Slot)) × (outs ≡ (i, slot.Cell y) ∷ more) × (stale ≡ false → y ≡ x) × AreOut stale held more
+-- the slots of the plain cells that are held are out, each with the value that is held, except where they are stale
+abbrev pub AreOut : CommitWay → Extent → Bool → Pairs → List (ℕ × Slot) → Type 0
+AreOut way a stale [] outs = outs ≡ []
+AreOut by_journal a stale ((name.Spot v, x) ∷ held) outs = AreOut by_journal a stale held outs
+AreOut by_journal a stale ((name.Body i, x) ∷ held) outs =
+    (y : Cell) × (more : List (ℕ × Slot)) × (outs ≡ (i, slot.Cell y) ∷ more) × (stale ≡ false → y ≡ x)
+    × AreOut by_journal a stale held more
+AreOut by_ticket a stale ((n, x) ∷ held) outs =
+    (y : Cell) × (more : List (ℕ × Slot)) × (outs ≡ (slot_of by_ticket a n, slot.Cell y) ∷ more) × (stale ≡ false → y ≡ x)
+    × AreOut by_ticket a stale held more
 
 -- what a caller knows of its turn while it claims: its tag, and the zone as far as the cells tell it that are held
 pub record KnowsTurn (r : Room) : Type 0 where
@@ -117,13 +122,13 @@ module _ {D : Type 0} where
   goes t k = record t { view = goes_on t.view k }
 
   -- an activation as its seat's token, and the cells that it holds, the one won last at the front
-  abbrev pub token_in : Activation D → Token D
+  abbrev pub token_in : {W : Type 0} → Activation D W → Token D
   token_in a = record { table = a.seat.table_id; view = seen a.seat.me.0 }
 
-  abbrev pub cells_in : Activation D → Pairs
+  abbrev pub cells_in : {W : Type 0} → Activation D W → Pairs
   cells_in a = reverse a.room.value.cells
 
-  abbrev pub notes_in : Activation D → List Note
+  abbrev pub notes_in : {W : Type 0} → Activation D W → List Note
   notes_in a = reverse a.room.value.notes
 
   -- the seat without its note
@@ -153,11 +158,11 @@ module _ {D : Type 0} where
 
   module _ (verdict : D → Shown → Verdict) where
     -- what a field keeps: it is about something that may be run, and has a word for each cell and for the journal,
-    -- and a slot for each amoebot and for the journal
-    pub record IsField (f : FieldOf D) (d : D) (w : Config) : Type 0 where
+    -- and a slot for each plain cell and for the journal, if it has one
+    pub record IsField (way : CommitWay) (f : FieldOf D) (d : D) (w : Config) : Type 0 where
       pub run : IsSetup (setup_of_terms verdict f.terms)
       pub words : f.table.words ≡ cells f.terms.world + 1
-      pub slots : f.table.slots ≡ journal_slot f.terms.world + 1
+      pub slots : f.table.slots ≡ slot_count way f.terms.world
       pub decider : f.terms.decider ≡ d
       pub world : f.terms.world ≡ w
 
@@ -186,8 +191,10 @@ module _ {D : Type 0} where
     verdict_in t = (about verdict t.view).verdict (found_in t)
 
     -- what every activation keeps: the seat has the record of one caller in this turn of its list, which holds these cells, with
-    -- their values, and won the nodes among them with what these notes say; the slots of the bodies among them are out, and stale or not
-    pub record IsActivation (m : Seated D) (c t b : ℕ) (stale : Bool) (w : Config) (pairs : Pairs) (notes : List Note) : Type 0 where
+    -- their values, and won the nodes among them that have words with what these notes say; the slots of the plain cells among them are
+    -- out, and stale or not
+    pub record IsActivation (way : CommitWay) (m : Seated D) (c t b : ℕ) (stale : Bool) (w : Config) (pairs : Pairs)
+        (notes : List Note) : Type 0 where
       pub alone : m.0.records ≡ own m.0 ∷ []
       pub run : IsSetup (about verdict m.0)
       pub number : (own m.0).number ≡ c
@@ -200,16 +207,16 @@ module _ {D : Type 0} where
       pub placed : All (λ (p : CellName × Cell). (i : ℕ) × IsPlaced (about verdict m.0) (cell_of p) i) pairs
       pub won : (own m.0).won ≡ notes
       pub note : (own m.0).note ≡ None
-      pub nodes : map (λ (n : Note). n.node) notes ≡ nodes_in pairs
+      pub nodes : map (λ (n : Note). n.node) notes ≡ noted_nodes way pairs
       pub few : All (λ (n : Note). n.stamp ≤ most_turns) notes
-      pub out : AreOut stale pairs m.1
+      pub out : AreOut way w.area stale pairs m.1
 
     -- the same of the parts of an activation: what its seat knows and has out, and its room
-    abbrev pub KeepsRoom : Seated D → Room → Type 0
-    KeepsRoom m r = IsActivation m r.caller r.turn r.bot r.stale (frame_of r.area r.maxes) (reverse r.cells) (reverse r.notes)
+    abbrev pub KeepsRoom : CommitWay → Seated D → Room → Type 0
+    KeepsRoom way m r = IsActivation way m r.caller r.turn r.bot r.stale (frame_of r.area r.maxes) (reverse r.cells) (reverse r.notes)
 
-    abbrev pub KeepsActivation : Activation D → Type 0
-    KeepsActivation a = KeepsRoom a.seat.me a.room.value
+    abbrev pub KeepsActivation : {W : Type 0} → CommitWay → Activation D W → Type 0
+    KeepsActivation way a = KeepsRoom way a.seat.me a.room.value
 
     -- it claims, or holds its whole zone
     pub record IsClaiming (m : Seated D) (t b : ℕ) (held : Pairs) : Type 0 where
@@ -222,7 +229,7 @@ module _ {D : Type 0} where
     pub record IsNoting (m : Seated D) (c t b : ℕ) (stale : Bool) (w : Config) (pairs : Pairs) (notes : List Note)
         (v : Node) (word : ℕ) : Type 0 where
       pub alone : m.0.records ≡ own m.0 ∷ []
-      pub activation : IsActivation (unnoted m) c t b stale w pairs notes
+      pub activation : IsActivation by_journal (unnoted m) c t b stale w pairs notes
       pub claiming : IsClaiming (unnoted m) t b pairs
       pub note : (own m.0).note ≡ Some (note_of v word)
       pub next : next_of (about verdict m.0) b pairs ≡ Some (name.Spot v)

@@ -8,18 +8,20 @@ use crate::activation::Activation;
 use crate::field::Field;
 use crate::freeing::Freeing;
 use crate::held::Held;
+use crate::manner::{ByJournal, Manner};
 use amoebot_state::{Decider, Found};
-use std::marker::Model;
+use std::marker::{Model, PhantomData};
 
 /// The length of the journal that a turn saw with its whole zone held.
 #[derive(Drop)]
-pub struct Seen {
+pub struct Seen<W = ByJournal> {
     caller: u8,
     turn: u32,
     place: u32,
+    of: PhantomData<W>,
 }
 
-impl Model for Seen {
+impl<W> Model for Seen<W> {
     ghost use Rattle.claim_rule.specs.Tokens.{PlacedTurn};
 
     ghost Value = { PlacedTurn };
@@ -27,7 +29,7 @@ impl Model for Seen {
     ghost view = { λ s. record { caller = s.caller; turn = s.turn; place = s.place } };
 }
 
-impl Seen {
+impl<W> Seen<W> {
     /// The caller whose turn it was, by the number of its list, from 0 on.
     pub fn caller(&self) -> u8
         ensures { result ≡ self.now.caller }
@@ -52,22 +54,22 @@ impl Seen {
 
 /// A caller that holds the whole zone of its turn's amoebot. Its turn has no mark until it was looked at.
 #[derive(Drop)]
-pub struct Claimed<D: Decider> {
-    pub(crate) activation: Activation<D>,
+pub struct Claimed<D: Decider, W: Manner = ByJournal> {
+    pub(crate) activation: Activation<D, W>,
 }
 
-impl<D: Decider> Model for Claimed<D> {
+impl<D: Decider, W: Manner> Model for Claimed<D, W> {
     ghost use Rattle.claim_rule.specs.Tokens.{Token, KeepsActivation, KeepsFound, token_in};
 
     ghost Value = { Token D };
 
     ghost view = { λ c. token_in c.activation };
 
-    ghost invariant = { λ c. KeepsActivation D.verdict c.activation
+    ghost invariant = { λ c. KeepsActivation D.verdict W.way c.activation
         × KeepsFound D.verdict c.activation.seat.me c.activation.room.value };
 }
 
-impl<D: Decider> Claimed<D> {
+impl<D: Decider, W: Manner> Claimed<D, W> {
     /// What was found in the zone.
     pub fn found(&self) -> &Found
         ensures { result.now ≡ found_in D.verdict self.now }
@@ -80,7 +82,7 @@ impl<D: Decider> Claimed<D> {
 }
 
 /// The whole zone is held, and what was found in it is what the decider is shown.
-pub fn seal<D: Decider>(held: Held<D>) -> Claimed<D>
+pub fn seal<D: Decider, W: Manner>(held: Held<D, W>) -> Claimed<D, W>
     requires whole { next_in D.verdict held ≡ None }
     ensures same { result ≡ held }
     ensures decided { (doing held).phase ≡ phase_of_verdict (verdict_in D.verdict held) }
@@ -91,7 +93,7 @@ pub fn seal<D: Decider>(held: Held<D>) -> Claimed<D>
 }
 
 /// The turn of a claim that decides Idle or Failed gets its mark: it reads the journal's length.
-pub fn look<D: Decider>(claimed: &mut Claimed<D>, field: &Field<'_, D>) -> Seen
+pub fn look<D: Decider, W: Manner>(claimed: &mut Claimed<D, W>, field: &Field<'_, D, W>) -> Seen<W>
     requires field { IsOf field.now claimed.old }
     requires looks { IsToLook claimed.old }
     ensures marked { claimed.new ≡ goes claimed.old (marked_at (about D.verdict claimed.old.view) (doing claimed.old) result.place) }
@@ -107,11 +109,12 @@ pub fn look<D: Decider>(claimed: &mut Claimed<D>, field: &Field<'_, D>) -> Seen
         caller: room.caller,
         turn: room.turn,
         place,
+        of: PhantomData,
     }
 }
 
 /// The turn has its mark, and its cells are to be freed. There is one at least, the own body.
-pub fn unseal<D: Decider>(claimed: Claimed<D>) -> Freeing<D>
+pub fn unseal<D: Decider, W: Manner>(claimed: Claimed<D, W>) -> Freeing<D, W>
     requires looked { IsMarked claimed }
     ensures same { result ≡ claimed }
     ensures some { 0 < length (doing claimed).held }

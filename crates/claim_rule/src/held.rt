@@ -1,14 +1,16 @@
-ghost use Rattle.std.specs.Prelude.{◌≡◌, ◌<◌, ◌≤◌, length, Some, IfOk, IfErr};
+ghost use Rattle.std.specs.Prelude.{◌≡◌, ◌<◌, ◌≤◌, length, true, Some, IfOk, IfErr};
 ghost use Rattle.amoebot_state.specs.declared.cell.Cell.{Cell};
 ghost use Rattle.amoebot_state.specs.declared.cell.CellName.TheVariants as name;
 ghost use Rattle.amoebot_state.specs.Limits.{most_cells};
 ghost use Rattle.claim_core.specs.declared.state.Phase.TheVariants.{Refusing};
 ghost use Rattle.claim_core.specs.Machine.{caller_with_cell};
+ghost use Rattle.claim_rule.specs.Manners.{by_journal, has_slot};
 ghost use Rattle.claim_rule.specs.Plays.{IsOthers, about, bot_in};
 ghost use Rattle.claim_rule.specs.Tokens.{IsOf, number_in, doing, goes, next_in};
 
 use crate::activation::Activation;
 use crate::field::Field;
+use crate::manner::{ByJournal, Manner};
 use crate::node_steps::{look_at, try_at};
 use crate::seat::Seat;
 use crate::stopped::{Stopped, Tag};
@@ -19,11 +21,11 @@ use tri_lattice::Node;
 
 /// A caller that claims the zone of its turn's amoebot, or that holds it whole.
 #[derive(Drop)]
-pub struct Held<D: Decider> {
-    pub(crate) activation: Activation<D>,
+pub struct Held<D: Decider, W: Manner = ByJournal> {
+    pub(crate) activation: Activation<D, W>,
 }
 
-impl<D: Decider> Model for Held<D> {
+impl<D: Decider, W: Manner> Model for Held<D, W> {
     ghost use Rattle.claim_rule.specs.Plays.{about};
     ghost use Rattle.claim_rule.specs.Tokens.{Token, IsClaiming, KeepsActivation, KnowsTurn, KnowsWalls, token_in, cells_in};
 
@@ -31,16 +33,16 @@ impl<D: Decider> Model for Held<D> {
 
     ghost view = { λ h. token_in h.activation };
 
-    ghost invariant = { λ h. KeepsActivation D.verdict h.activation
+    ghost invariant = { λ h. KeepsActivation D.verdict W.way h.activation
         × IsClaiming D.verdict h.activation.seat.me h.activation.room.value.turn h.activation.room.value.bot (cells_in h.activation)
         × KnowsTurn h.activation.room.value
         × KnowsWalls (about D.verdict h.activation.seat.me.0).world h.activation.room.value };
 }
 
-impl<D: Decider> Held<D> {
+impl<D: Decider, W: Manner> Held<D, W> {
     /// The next cell of the zone by the values that were recorded; None exactly where the whole zone is held. A zone has at most 19
     /// cells.
-    pub fn next(&self, _field: &Field<'_, D>) -> Option<CellName>
+    pub fn next(&self, _field: &Field<'_, D, W>) -> Option<CellName>
         requires { IsOf _field.now self.now }
         ensures next { result ≡ next_in D.verdict self.now }
         ensures few { length (doing self.now).held ≤ most_cells }
@@ -58,27 +60,27 @@ impl<D: Decider> Held<D> {
 }
 
 /// The caller's next turn begins, on its list's amoebot.
-pub fn begin<D: Decider>(seat: Seat<D>, turn: u32, bot: u16) -> Held<D>
+pub fn begin<D: Decider, W: Manner>(seat: Seat<D, W>, turn: u32, bot: u16) -> Held<D, W>
     requires turn { (turn ≡ (doing seat).turn) × (turn < (about D.verdict seat.view).lists.turns) }
     requires bot { bot ≡ bot_in D.verdict seat.view }
     ensures same { result ≡ seat }
     ensures one { result ≡ goes seat (doing seat) }
 {
-    let Seat { seat, mut room } = seat;
+    let Seat { seat, mut room, of } = seat;
     room.begin(turn, bot);
     Held {
-        activation: Activation { seat, room },
+        activation: Activation { seat, room, of },
     }
 }
 
 /// The claim of the next cell of the zone. It is won with its value where nobody held it; else another caller's tag was found, and the
-/// turn claims no more. A body is claimed by one try. The word of a node is looked at, and tried while it is found free and changed:
+/// turn claims no more. A plain cell is claimed by one try. The word of a node is looked at, and tried while it is found free and changed:
 /// each such try finds a greater stamp.
-pub fn win<D: Decider>(
-    held: Held<D>,
-    field: &Field<'_, D>,
+pub fn win<D: Decider, W: Manner>(
+    held: Held<D, W>,
+    field: &Field<'_, D, W>,
     cell: CellName,
-) -> Result<Held<D>, (Stopped<D>, Tag)>
+) -> Result<Held<D, W>, (Stopped<D, W>, Tag)>
     requires field { IsOf field.now held }
     requires next { next_in D.verdict held ≡ Some cell }
     ensures won { IfOk result (λ more. (x : Cell)
@@ -86,47 +88,53 @@ pub fn win<D: Decider>(
     ensures refused { IfErr result (λ by. (by.0 ≡ goes held (record (doing held) { phase = Refusing cell by.1 }))
         × IsOthers (about D.verdict held.view) (number_in held) by.1) }
 {
-    match cell {
-        CellName::Body(id) => win_body(held, field, id),
-        CellName::Spot(node) => win_node(held, field, node),
+    if W::has_slot(cell) {
+        return win_plain(held, field, cell);
     }
+    let CellName::Spot(node) = cell else {
+        unreachable!()
+    };
+    win_node(held, field, node)
 }
 
-/// One try to claim a body, which is the next cell.
-fn win_body<D: Decider>(
-    held: Held<D>,
-    field: &Field<'_, D>,
-    id: u16,
-) -> Result<Held<D>, (Stopped<D>, Tag)>
+/// One try to claim a plain cell, which is the next one.
+fn win_plain<D: Decider, W: Manner>(
+    held: Held<D, W>,
+    field: &Field<'_, D, W>,
+    cell: CellName,
+) -> Result<Held<D, W>, (Stopped<D, W>, Tag)>
     requires field { IsOf field.now held }
-    requires next { next_in D.verdict held ≡ Some (name.Body id) }
+    requires next { next_in D.verdict held ≡ Some cell }
+    requires plain { has_slot W.way cell ≡ true }
     ensures won { IfOk result (λ more. (x : Cell)
-        × (more ≡ goes held (caller_with_cell (about D.verdict held.view) (number_in held) (doing held) (name.Body id) x))) }
-    ensures refused { IfErr result (λ by. (by.0 ≡ goes held (record (doing held) { phase = Refusing (name.Body id) by.1 }))
+        × (more ≡ goes held (caller_with_cell (about D.verdict held.view) (number_in held) (doing held) cell x))) }
+    ensures refused { IfErr result (λ by. (by.0 ≡ goes held (record (doing held) { phase = Refusing cell by.1 }))
         × IsOthers (about D.verdict held.view) (number_in held) by.1) }
 {
     let Held { mut activation } = held;
     let room = &*activation.room;
-    let Some(number) = cell_number(&room.area, CellName::Body(id)) else {
+    let Some(number) = cell_number(&room.area, cell) else {
         unreachable!()
     };
     let found = field.claim(&mut activation.seat, number, room.tag);
     if found != 0 {
         return Err((Stopped { activation }, Tag { number: found }));
     }
-    let value = field.cell_there(&mut activation.seat, usize::from(id));
-    activation.room.hold(CellName::Body(id), value, false);
+    let value = field.cell_there(&mut activation.seat, W::slot(cell, number));
+    let wall = field.is_wall(cell, number);
+    activation.room.hold(cell, value, wall);
     Ok(Held { activation })
 }
 
-/// The claim of a node, which is the next cell: a look at its word, and tries while it is found free.
-fn win_node<D: Decider>(
-    held: Held<D>,
-    field: &Field<'_, D>,
+/// The claim of a node, which is the next cell, by its word: a look at it, and tries while it is found free.
+fn win_node<D: Decider, W: Manner>(
+    held: Held<D, W>,
+    field: &Field<'_, D, W>,
     node: Node,
-) -> Result<Held<D>, (Stopped<D>, Tag)>
+) -> Result<Held<D, W>, (Stopped<D, W>, Tag)>
     requires field { IsOf field.now held }
     requires next { next_in D.verdict held ≡ Some (name.Spot node) }
+    requires words { W.way ≡ by_journal }
     ensures won { IfOk result (λ more. (x : Cell)
         × (more ≡ goes held (caller_with_cell (about D.verdict held.view) (number_in held) (doing held) (name.Spot node) x))) }
     ensures refused { IfErr result (λ by. (by.0 ≡ goes held (record (doing held) { phase = Refusing (name.Spot node) by.1 }))

@@ -5,12 +5,14 @@ mod activation;
 mod cells;
 mod claimed;
 mod close;
+mod drawing;
 mod field;
 mod freeing;
 mod held;
 mod journal_box;
 mod laws;
 mod make;
+mod manner;
 mod node_steps;
 mod notes;
 mod renewal;
@@ -25,22 +27,26 @@ mod views;
 mod words;
 
 pub use claimed::{Claimed, Seen, look, seal, unseal};
+pub use close::apply_entries;
+pub use drawing::draw;
 pub use field::Field;
 pub use freeing::{Freeing, end, free_last};
 pub use held::{Held, begin, win};
 pub use journal_box::JournalBox;
 pub use laws::{
-    ended_field_is_reached, field_ends_one_way, field_ends_sound, found_is_shown,
-    join_changes_nothing, opening_stands, split_changes_nothing, state_is_determined,
+    ended_field_is_reached, ended_tickets_are_reached, field_ends_one_way, field_ends_sound,
+    found_is_shown, join_changes_nothing, opening_stands, split_changes_nothing,
+    state_is_determined,
 };
+pub use manner::{ByJournal, ByTicket, Manner};
 pub use node_steps::{Noted, look_at, try_at};
 pub use rule::ClaimRule;
 pub use seat::Seat;
 pub use seats::Seats;
 pub use settled::{Receipt, Settled, unsettle};
 pub use step_laws::{
-    claim_is_next, commit_is_next, look_is_next, node_claim_is_next, node_look_is_next,
-    node_release_is_next, release_is_next, take_is_next,
+    claim_is_next, commit_is_next, draw_is_next, look_is_next, node_claim_is_next,
+    node_look_is_next, node_release_is_next, release_is_next, take_is_next,
 };
 pub use stopped::{Refused, Stopped, Tag, refuse};
 pub use taken::{Taken, store, take};

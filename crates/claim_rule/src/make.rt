@@ -1,7 +1,10 @@
 //! How a field begins.
-ghost use Rattle.std.specs.Prelude.{◌≡◌, ◌≤◌, [], length, IfOk, IsSome};
+ghost use Rattle.std.specs.Prelude.{◌≡◌, ◌≤◌, [], map, length, IfOk, IsSome};
 ghost use Rattle.std.specs.List.{All};
 ghost use Rattle.amoebot_state.specs.Configs.{bot_at};
+ghost use Rattle.claim_rule.specs.Manners.{by_journal, by_ticket};
+ghost use Rattle.claim_core.specs.Cells.{values_of};
+ghost use Rattle.claim_rule.specs.declared.views.Slot.TheVariants as filling;
 ghost use Rattle.claim_rule.specs.Views.{field_terms};
 ghost use Rattle.claim_rule.specs.Stands.{first_view};
 ghost use Rattle.claim_rule.specs.Opened.{AreFirstSlots, first_seats, first_words};
@@ -9,14 +12,16 @@ ghost use Rattle.claim_rule.specs.Opened.{AreFirstSlots, first_seats, first_word
 use crate::activation::Room;
 use crate::field::Field;
 use crate::journal_box::JournalBox;
+use crate::manner::{ByTicket, Manner};
 use crate::seat::Seat;
 use crate::seats::Seats;
 use crate::views::{Slot, View};
 use crate::words::node_word;
 use amoebot_state::{Cell, Decider, NoMemory, World, has_next, touches_zone};
 use atomic_table::Seat as TableSeat;
-use claim_core::{Journal, Lists};
+use claim_core::{Journal, Lists, cells_of};
 use std::alloc::Global;
+use std::marker::PhantomData;
 
 impl<'d, D: Decider> Field<'d, D> {
     /// A field over a world, for callers with these lists of ids of amoebots of it, and a seat for each caller. It takes all memory
@@ -34,6 +39,27 @@ impl<'d, D: Decider> Field<'d, D> {
         ensures all { IfOk result (λ made. All (λ seat. IsSome seat) made.1.seats) }
     {
         let (field, rest) = open(alloc, decider, world, lists)?;
+        let seats = deal_all(alloc, &field, rest, lists.callers())?;
+        Ok((field, seats))
+    }
+}
+
+impl<'d, D: Decider> Field<'d, D, ByTicket> {
+    /// The same, of a field whose commits draw their places. It takes all memory that the callers' steps need; the entries are with the
+    /// callers.
+    pub fn make_tickets(
+        alloc: Global,
+        decider: &'d D,
+        world: World,
+        lists: &'d Lists,
+    ) -> Result<(Field<'d, D, ByTicket>, Seats<D, ByTicket>), NoMemory>
+        requires some { 1 ≤ length lists.now.ids }
+        requires bots { All (All (λ id. IsSome (bot_at world id))) lists.now.ids }
+        ensures terms { IfOk result (λ made. made.0.terms ≡ field_terms decider.now world lists.now) }
+        ensures seats { IfOk result (λ made. made.1 ≡ first_seats D.verdict made.0) }
+        ensures all { IfOk result (λ made. All (λ seat. IsSome seat) made.1.seats) }
+    {
+        let (field, rest) = open_tickets(alloc, decider, world, lists)?;
         let seats = deal_all(alloc, &field, rest, lists.callers())?;
         Ok((field, seats))
     }
@@ -59,13 +85,33 @@ fn open<'d, D: Decider>(
     Field::lay_out(alloc, decider, world, lists, words, slots)
 }
 
-/// Deals the records of all callers to seats.
-fn deal_all<'d, D: Decider>(
+/// A field whose commits draw their places, with all records at one seat.
+fn open_tickets<'d, D: Decider>(
     alloc: Global,
-    field: &Field<'d, D>,
+    decider: &'d D,
+    world: World,
+    lists: &'d Lists,
+) -> Result<(Field<'d, D, ByTicket>, TableSeat<Slot, View<D>>), NoMemory>
+    requires bots { All (All (λ id. IsSome (bot_at world id))) lists.now.ids }
+    ensures terms { IfOk result (λ made. made.0.terms ≡ field_terms decider.now world lists.now) }
+    ensures seat { IfOk result (λ made. (made.1.table_id ≡ made.0.table) × (made.1.me ≡ (first_view D.verdict made.0.terms, []))) }
+{
+    world.keeps();
+    touches_zone(decider);
+    has_next(decider);
+    let _callers = lists.callers();
+    let words = ticket_words(alloc, &world)?;
+    let slots = ticket_slots(alloc, &world)?;
+    Field::lay_out(alloc, decider, world, lists, words, slots)
+}
+
+/// Deals the records of all callers to seats.
+fn deal_all<'d, D: Decider, W: Manner>(
+    alloc: Global,
+    field: &Field<'d, D, W>,
     mut rest: TableSeat<Slot, View<D>>,
     callers: u8,
-) -> Result<Seats<D>, NoMemory>
+) -> Result<Seats<D, W>, NoMemory>
     requires field { rest.table_id ≡ field.now.table }
     requires all { rest.me ≡ (first_view D.verdict field.now.terms, []) }
     requires callers { callers ≡ length field.now.terms.lists.ids }
@@ -78,14 +124,18 @@ fn deal_all<'d, D: Decider>(
     for caller in 0..callers {
         let room = Box::new(alloc, Room::new(caller, area, maxes))?;
         let seat = field.deal(&mut rest);
-        seats.push(Some(Seat { seat, room }))?;
+        seats.push(Some(Seat {
+            seat,
+            room,
+            of: PhantomData,
+        }))?;
     }
     Ok(Seats { rest, seats })
 }
 
 /// The words at the start: each node's has its occupant, and all others are 0.
 fn words_at_first(alloc: Global, world: &World) -> Result<Vec<u64>, NoMemory>
-    ensures { IfOk result (λ words. words.items ≡ first_words world.now) }
+    ensures { IfOk result (λ words. words.items ≡ first_words by_journal world.now) }
 {
     let area = world.area();
     let mut words = Vec::new(alloc);
@@ -112,5 +162,33 @@ fn first_slots(alloc: Global, world: &World, lists: &Lists) -> Result<Vec<Slot>,
     journal.reserve(alloc, lists.all_turns())?;
     let boxed = JournalBox::make(alloc, journal)?;
     slots.push(Slot::Journal(boxed))?;
+    Ok(slots)
+}
+
+/// The words at the start where commits draw their places: all are 0.
+fn ticket_words(alloc: Global, world: &World) -> Result<Vec<u64>, NoMemory>
+    ensures { IfOk result (λ words. words.items ≡ first_words by_ticket world.now) }
+{
+    let mut words = Vec::new(alloc);
+    for _cell in 0..cells_of(world) {
+        words.push(0)?;
+    }
+    words.push(0)?;
+    Ok(words)
+}
+
+/// What the slots hold at the start where commits draw their places: what each cell holds, by the cells' numbers.
+fn ticket_slots(alloc: Global, world: &World) -> Result<Vec<Slot>, NoMemory>
+    ensures { IfOk result (λ slots. slots.items ≡ map (λ x. filling.Cell x) (values_of world.now)) }
+{
+    let area = world.area();
+    let mut slots = Vec::new(alloc);
+    for number in 0..area.size() {
+        let node = area.node(number);
+        slots.push(Slot::Cell(Cell::Spot(world.occupant(node))))?;
+    }
+    for id in 0..world.bots() {
+        slots.push(Slot::Cell(Cell::Body(*world.bot(id))))?;
+    }
     Ok(slots)
 }

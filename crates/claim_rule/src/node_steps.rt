@@ -5,12 +5,14 @@ ghost use Rattle.amoebot_state.specs.declared.cell.CellName.TheVariants as name;
 ghost use Rattle.claim_core.specs.declared.state.Phase.TheVariants.{Refusing};
 ghost use Rattle.claim_core.specs.Limits.{most_turns};
 ghost use Rattle.claim_core.specs.Machine.{caller_with_cell};
+ghost use Rattle.claim_rule.specs.Manners.{by_journal};
 ghost use Rattle.claim_rule.specs.Plays.{IsOthers, about};
 ghost use Rattle.claim_rule.specs.Tokens.{IsOf, number_in, doing, goes, next_in};
 
 use crate::activation::Activation;
 use crate::field::Field;
 use crate::held::Held;
+use crate::manner::{ByJournal, Manner};
 use crate::stopped::{Stopped, Tag};
 use crate::words::{word_occ, word_stamp, word_tag};
 use amoebot_state::{Cell, CellName, Decider};
@@ -21,19 +23,20 @@ use tri_lattice::Node;
 /// A caller that claims the zone of its turn's amoebot, and has found the word of the next cell, a node, free. Contracts see it as the
 /// claim, the node, and the occupant and the stamp in the word.
 #[derive(Drop)]
-pub struct Noted<D: Decider> {
-    pub(crate) activation: Activation<D>,
+pub struct Noted<D: Decider, W: Manner = ByJournal> {
+    pub(crate) activation: Activation<D, W>,
     pub(crate) node: Node,
     /// The number of the node's word.
     pub(crate) index: usize,
     pub(crate) word: u64,
 }
 
-impl<D: Decider> Model for Noted<D> {
+impl<D: Decider, W: Manner> Model for Noted<D, W> {
     ghost use Rattle.std.specs.Prelude.{◌≡◌, Some};
     ghost use Rattle.amoebot_state.specs.declared.cell.CellName.TheVariants as name;
     ghost use Rattle.claim_core.specs.Cells.{number};
     ghost use Rattle.claim_rule.specs.Words.{word_occ, word_stamp};
+    ghost use Rattle.claim_rule.specs.Manners.{by_journal};
     ghost use Rattle.claim_rule.specs.Plays.{about};
     ghost use Rattle.claim_rule.specs.Tokens.{NotedOf, IsNoting, KnowsTurn, KnowsWalls, frame_of, token_in, cells_in, notes_in};
 
@@ -46,10 +49,10 @@ impl<D: Decider> Model for Noted<D> {
         (frame_of n.activation.room.value.area n.activation.room.value.maxes) (cells_in n.activation)
         (notes_in n.activation) n.node n.word × KnowsTurn n.activation.room.value
         × (number n.activation.room.value.area (name.Spot n.node) ≡ Some n.index)
-        × KnowsWalls (about D.verdict n.activation.seat.me.0).world n.activation.room.value };
+        × KnowsWalls (about D.verdict n.activation.seat.me.0).world n.activation.room.value × (W.way ≡ by_journal) };
 }
 
-impl<D: Decider> Noted<D> {
+impl<D: Decider, W: Manner> Noted<D, W> {
     /// The occupant in the word that was found.
     pub fn occupant(&self) -> Option<u16>
         ensures { result ≡ self.now.occ }
@@ -66,11 +69,12 @@ impl<D: Decider> Noted<D> {
 }
 
 /// A look at the word of the next cell, a node. It is free, and noted, or another caller's tag was found, and the turn claims no more.
-pub fn look_at<D: Decider>(
-    held: Held<D>,
-    field: &Field<'_, D>,
+pub fn look_at<D: Decider, W: Manner>(
+    held: Held<D, W>,
+    field: &Field<'_, D, W>,
     node: Node,
-) -> Result<Noted<D>, (Stopped<D>, Tag)>
+) -> Result<Noted<D, W>, (Stopped<D, W>, Tag)>
+    requires words { W.way ≡ by_journal }
     requires field { IsOf field.now held }
     requires next { next_in D.verdict held ≡ Some (name.Spot node) }
     ensures noted { IfOk result (λ noted. (noted.claim ≡ held) × (noted.node ≡ node)) }
@@ -96,10 +100,10 @@ pub fn look_at<D: Decider>(
 
 /// A try to put the turn's tag into the word that was noted. The node is won with its occupant; or another free word was found, with a
 /// greater stamp, and is noted; or another caller's tag was found, and the turn claims no more.
-pub fn try_at<D: Decider>(
-    noted: Noted<D>,
-    field: &Field<'_, D>,
-) -> Result<Held<D>, Result<Noted<D>, (Stopped<D>, Tag)>>
+pub fn try_at<D: Decider, W: Manner>(
+    noted: Noted<D, W>,
+    field: &Field<'_, D, W>,
+) -> Result<Held<D, W>, Result<Noted<D, W>, (Stopped<D, W>, Tag)>>
     requires field { IsOf field.now noted.claim }
     ensures won { IfOk result (λ more. more ≡ goes noted.claim
         (caller_with_cell (about D.verdict noted.claim.view) (number_in noted.claim) (doing noted.claim)

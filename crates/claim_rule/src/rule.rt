@@ -2,17 +2,21 @@
 ghost use Rattle.claim_rule.specs.Views.{field_terms};
 ghost use Rattle.claim_rule.specs.Stands.{KeepsRule, first_view};
 ghost use Rattle.claim_rule.specs.Plays.{Claims, Releases, LooksAt, TriesNode, ReleasesNode, ReadsLength};
-ghost use Rattle.claim_rule.specs.Commits.{took, stored};
+ghost use Rattle.claim_rule.specs.Commits.{took, stored, drew};
 
+use crate::manner::{ByJournal, Manner};
 use crate::views::{Key, Slot, View};
 use amoebot_state::Decider;
 use atomic_table::{Play, TableRule};
+use std::marker::PhantomData;
 
 /// Between any two steps, words, values at home and views stand for a state that steps of the callers lead to.
-pub struct ClaimRule;
+pub struct ClaimRule<W = ByJournal> {
+    marker: PhantomData<W>,
+}
 
-impl<'d, D: Decider> TableRule<Slot, View<D>, Key<'d, D>> for ClaimRule {
-    ghost holds = { λ key. KeepsRule D.verdict (field_terms key.decider.now key.world key.lists.now) };
+impl<'d, D: Decider, W: Manner> TableRule<Slot, View<D>, Key<'d, D>> for ClaimRule<W> {
+    ghost holds = { λ key. KeepsRule D.verdict (field_terms key.decider.now key.world key.lists.now) W.way };
 
     ghost first = { λ key. first_view D.verdict (field_terms key.decider.now key.world key.lists.now) };
 }
@@ -38,14 +42,16 @@ impl<D: Decider> Play<Slot, View<D>> for FreeNode {
     ghost then = { ReleasesNode D.verdict };
 }
 
-/// A try to claim a body.
-pub(crate) struct Claim;
-
-impl<D: Decider> Play<Slot, View<D>> for Claim {
-    ghost then = { Claims D.verdict };
+/// A try to claim a plain cell.
+pub(crate) struct Claim<W> {
+    marker: PhantomData<W>,
 }
 
-/// The release of the body that was won last.
+impl<D: Decider, W: Manner> Play<Slot, View<D>> for Claim<W> {
+    ghost then = { Claims D.verdict W.way };
+}
+
+/// The release of the plain cell that was won last.
 pub(crate) struct Free;
 
 impl<D: Decider> Play<Slot, View<D>> for Free {
@@ -53,10 +59,12 @@ impl<D: Decider> Play<Slot, View<D>> for Free {
 }
 
 /// A look at the journal's length.
-pub(crate) struct Read;
+pub(crate) struct Read<W> {
+    marker: PhantomData<W>,
+}
 
-impl<D: Decider> Play<Slot, View<D>> for Read {
-    ghost then = { ReadsLength D.verdict };
+impl<D: Decider, W: Manner> Play<Slot, View<D>> for Read<W> {
+    ghost then = { ReadsLength D.verdict W.way };
 }
 
 /// A try to take the journal.
@@ -71,4 +79,11 @@ pub(crate) struct Commit;
 
 impl<D: Decider> Play<Slot, View<D>> for Commit {
     ghost then = { stored D.verdict };
+}
+
+/// A commit that draws its place.
+pub(crate) struct Draw;
+
+impl<D: Decider> Play<Slot, View<D>> for Draw {
+    ghost then = { drew D.verdict };
 }

@@ -3,6 +3,7 @@ ghost use Rattle.std.specs.List.{All};
 ghost use Rattle.claim_rule.specs.Tokens.{number_in};
 ghost use Rattle.claim_rule.specs.Seating.{IsFirst};
 
+use crate::manner::{ByJournal, Manner};
 use crate::seat::Seat;
 use crate::views::{Slot, View};
 use amoebot_state::Decider;
@@ -11,12 +12,12 @@ use std::marker::Model;
 /// The seats of a field, one for each caller. Contracts see them as the field's table, what it is about, and the seats by the
 /// callers' numbers, each there or given out.
 #[derive(Drop)]
-pub struct Seats<D: Decider> {
+pub struct Seats<D: Decider, W: Manner = ByJournal> {
     pub(crate) rest: atomic_table::Seat<Slot, View<D>>,
-    pub(crate) seats: Vec<Option<Seat<D>>>,
+    pub(crate) seats: Vec<Option<Seat<D, W>>>,
 }
 
-impl<D: Decider> Model for Seats<D> {
+impl<D: Decider, W: Manner> Model for Seats<D, W> {
     ghost use Rattle.claim_rule.specs.Seating.{SeatsOf, AreSeats};
 
     ghost Value = { SeatsOf D };
@@ -26,9 +27,9 @@ impl<D: Decider> Model for Seats<D> {
     ghost invariant = { λ s. AreSeats s.rest.me s.rest.table_id s.seats.items };
 }
 
-impl<D: Decider> Seats<D> {
+impl<D: Decider, W: Manner> Seats<D, W> {
     /// The seat of the least number that is there; None where all were given out.
-    pub fn take(&mut self) -> Option<Seat<D>>
+    pub fn take(&mut self) -> Option<Seat<D, W>>
         ensures none { (result ≡ None) ↔ All (λ seat. seat ≡ None) self.old.seats }
         ensures first { IfSome result (λ seat. IsFirst self.old.seats seat
             × (self.new ≡ record self.old { seats = slice_set self.old.seats (number_in seat) None })) }
@@ -40,7 +41,7 @@ impl<D: Decider> Seats<D> {
     }
 
     /// Takes a seat back that was given out.
-    pub fn give(&mut self, seat: Seat<D>)
+    pub fn give(&mut self, seat: Seat<D, W>)
         requires field { (seat.table ≡ self.old.table) × (seat.view.terms ≡ self.old.terms) }
         requires out { slice_get self.old.seats (number_in seat) ≡ Some None }
         ensures { self.new ≡ record self.old { seats = slice_set self.old.seats (number_in seat) (Some seat) } }
@@ -51,7 +52,7 @@ impl<D: Decider> Seats<D> {
 }
 
 /// The place of the first seat that is there.
-fn first_there<D: Decider>(seats: &[Option<Seat<D>>]) -> Option<usize>
+fn first_there<D: Decider, W: Manner>(seats: &[Option<Seat<D, W>>]) -> Option<usize>
     ensures none { (result ≡ None) ↔ All (λ seat. seat ≡ None) seats.now }
     ensures first { IfSome result (λ place. (slice_get seats.now place ≢ Some None) × (place < length seats.now)
         × ((c : ℕ) → c < place → slice_get seats.now c ≡ Some None)) }

@@ -3,18 +3,20 @@ ghost use Rattle.claim_rule.specs.Tokens.{doing};
 
 use crate::activation::Activation;
 use crate::freeing::Freeing;
+use crate::manner::{ByJournal, Manner};
 use amoebot_state::Decider;
-use std::marker::Model;
+use std::marker::{Model, PhantomData};
 
 /// The place in the journal of the entry that a turn committed.
 #[derive(Drop)]
-pub struct Receipt {
+pub struct Receipt<W = ByJournal> {
     pub(crate) caller: u8,
     pub(crate) turn: u32,
     pub(crate) place: u32,
+    pub(crate) of: PhantomData<W>,
 }
 
-impl Model for Receipt {
+impl<W> Model for Receipt<W> {
     ghost use Rattle.claim_rule.specs.Tokens.{PlacedTurn};
 
     ghost Value = { PlacedTurn };
@@ -22,7 +24,7 @@ impl Model for Receipt {
     ghost view = { λ r. record { caller = r.caller; turn = r.turn; place = r.place } };
 }
 
-impl Receipt {
+impl<W> Receipt<W> {
     /// The caller whose turn it was, by the number of its list, from 0 on.
     pub fn caller(&self) -> u8
         ensures { result ≡ self.now.caller }
@@ -47,11 +49,11 @@ impl Receipt {
 
 /// A caller that has committed, and still holds the whole zone, with the values after the commit. Its turn has its mark.
 #[derive(Drop)]
-pub struct Settled<D: Decider> {
-    pub(crate) activation: Activation<D>,
+pub struct Settled<D: Decider, W: Manner = ByJournal> {
+    pub(crate) activation: Activation<D, W>,
 }
 
-impl<D: Decider> Model for Settled<D> {
+impl<D: Decider, W: Manner> Model for Settled<D, W> {
     ghost use Rattle.std.specs.Prelude.{◌<◌, length};
     ghost use Rattle.claim_rule.specs.Tokens.{Token, IsFreeing, KeepsActivation, token_in, cells_in};
 
@@ -59,13 +61,13 @@ impl<D: Decider> Model for Settled<D> {
 
     ghost view = { λ s. token_in s.activation };
 
-    ghost invariant = { λ s. KeepsActivation D.verdict s.activation
+    ghost invariant = { λ s. KeepsActivation D.verdict W.way s.activation
         × IsFreeing D.verdict s.activation.seat.me s.activation.room.value.turn (cells_in s.activation) s.activation.room.value.after
         × (0 < length (cells_in s.activation)) };
 }
 
 /// The cells are to be freed. There is one at least, the own body.
-pub fn unsettle<D: Decider>(settled: Settled<D>) -> Freeing<D>
+pub fn unsettle<D: Decider, W: Manner>(settled: Settled<D, W>) -> Freeing<D, W>
     ensures same { result ≡ settled }
     ensures some { 0 < length (doing settled).held }
 {

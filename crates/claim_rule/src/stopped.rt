@@ -8,9 +8,10 @@ ghost use Rattle.claim_rule.specs.Tokens.{IsOf, number_in, doing, goes, refused_
 use crate::activation::Activation;
 use crate::field::Field;
 use crate::freeing::Freeing;
+use crate::manner::{ByJournal, Manner};
 use amoebot_state::{CellName, Decider};
 use claim_core::{tag_bot, tag_caller, tag_turn};
-use std::marker::Model;
+use std::marker::{Model, PhantomData};
 
 /// The tag that was found at a cell that another caller held.
 #[derive(Drop)]
@@ -54,7 +55,7 @@ impl Tag {
 
 /// What a turn is told whose zone had a cell that another caller held.
 #[derive(Drop)]
-pub struct Refused {
+pub struct Refused<W = ByJournal> {
     caller: u8,
     turn: u32,
     cell: CellName,
@@ -62,9 +63,10 @@ pub struct Refused {
     by_turn: u32,
     by_bot: u16,
     place: u32,
+    of: PhantomData<W>,
 }
 
-impl Model for Refused {
+impl<W> Model for Refused<W> {
     ghost use Rattle.claim_rule.specs.Tokens.{RefusedOf};
 
     ghost Value = { RefusedOf };
@@ -80,7 +82,7 @@ impl Model for Refused {
     } };
 }
 
-impl Refused {
+impl<W> Refused<W> {
     /// The caller that was refused.
     pub fn caller(&self) -> u8
         ensures { result ≡ self.now.caller }
@@ -133,29 +135,29 @@ impl Refused {
 
 /// A caller that found another's tag at the next cell of its zone, and claims no more.
 #[derive(Drop)]
-pub struct Stopped<D: Decider> {
-    pub(crate) activation: Activation<D>,
+pub struct Stopped<D: Decider, W: Manner = ByJournal> {
+    pub(crate) activation: Activation<D, W>,
 }
 
-impl<D: Decider> Model for Stopped<D> {
+impl<D: Decider, W: Manner> Model for Stopped<D, W> {
     ghost use Rattle.claim_rule.specs.Tokens.{Token, IsStopped, KeepsActivation, token_in, cells_in};
 
     ghost Value = { Token D };
 
     ghost view = { λ s. token_in s.activation };
 
-    ghost invariant = { λ s. KeepsActivation D.verdict s.activation
+    ghost invariant = { λ s. KeepsActivation D.verdict W.way s.activation
         × IsStopped D.verdict s.activation.seat.me s.activation.room.value.caller s.activation.room.value.turn
         s.activation.room.value.bot (cells_in s.activation) };
 }
 
 /// The turn of a refused claim gets its mark: it reads the journal's length.
-pub fn refuse<D: Decider>(
-    stopped: Stopped<D>,
-    field: &Field<'_, D>,
+pub fn refuse<D: Decider, W: Manner>(
+    stopped: Stopped<D, W>,
+    field: &Field<'_, D, W>,
     cell: CellName,
     tag: Tag,
-) -> (Freeing<D>, Refused)
+) -> (Freeing<D, W>, Refused<W>)
     requires field { IsOf field.now stopped }
     requires refused { (doing stopped).phase ≡ Refusing cell tag }
     ensures marked { result.0 ≡ goes stopped (marked_at (about D.verdict stopped.view) (doing stopped) result.1.place) }
@@ -174,6 +176,7 @@ pub fn refuse<D: Decider>(
         by_turn: tag.turn(),
         by_bot: tag.bot(),
         place,
+        of: PhantomData,
     };
     (Freeing { activation }, refused)
 }

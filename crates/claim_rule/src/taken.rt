@@ -11,7 +11,7 @@ use crate::claimed::Claimed;
 use crate::field::Field;
 use crate::settled::{Receipt, Settled};
 use amoebot_state::{Change, Decider, Entry};
-use std::marker::Model;
+use std::marker::{Model, PhantomData};
 
 /// A caller that holds the whole zone of its turn's amoebot, and the journal, and commits its change next.
 #[derive(Drop)]
@@ -85,6 +85,7 @@ pub fn store<D: Decider>(taken: Taken<D>, field: &Field<'_, D>) -> (Settled<D>, 
         caller: room.caller,
         turn: room.turn,
         place,
+        of: PhantomData,
     };
     (Settled { activation }, receipt)
 }

@@ -30,6 +30,7 @@ pub mod Lowest
 pub mod Opened
 pub mod OneNode
 pub mod PatchLemmas
+pub mod OnlyChanged
 pub mod Carried
 pub mod Decided
 pub mod ExpansionLaws

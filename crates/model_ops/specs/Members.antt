@@ -1,5 +1,5 @@
 -- The amoebots of a neighbourhood, each as it was found and as it is now, as a site keeps them. No public clause cites these.
-use Rattle.std.specs.Prelude.{◌≡◌, ℕ, ◌≤◌, List, [], ◌∷◌, ◌++◌, IsSome, length, map, filter, Bool, false, not, if◌then◌else◌, nat_eq, nat_lt, min}
+use Rattle.std.specs.Prelude.{◌≡◌, ℕ, ◌≤◌, List, [], ◌∷◌, ◌++◌, IsSome, length, map, filter, Bool, false, not, ◌&&◌, ◌||◌, if◌then◌else◌, nat_eq, nat_lt, min}
 use Rattle.std.specs.List.{All, filter_map, find, fold, list_any}
 use Rattle.std.specs.declared.option.Option.{Option}
 use Rattle.std.specs.declared.option.Option.TheVariants.{Some, None}
@@ -130,6 +130,10 @@ changed_spot ms (Some v) = (name.Spot v, cell.Spot (id_found_on ms v), cell.Spot
 -- the member has another amoebot than it was found with
 abbrev pub is_changed : Member → Bool
 is_changed m = not (bot_eq m.found m.now)
+
+-- the member entered or left the node
+abbrev pub is_crossed : Member → Node → Bool
+is_crossed m v = (is_own m.found v && not (is_own m.now v)) || (is_own m.now v && not (is_own m.found v))
 
 -- the first node of a member whose occupant has changed, and then the bodies that have, in rising id
 abbrev pub changed_cells : List Member → Member → Triples

@@ -378,12 +378,15 @@ fn has_node(nodes: &[Node], node: Node) -> bool
     nodes.iter().any(|other| *other == node)
 }
 
-/// Puts these nodes in the place of what the list has.
+/// Puts these nodes in the place of what the list has. Mostly there are none.
 pub(crate) fn copy_walls(copy: &mut Walls, nodes: &[Node])
     requires { length nodes.now ≤ most_nodes }
     ensures { copy.new.items ≡ nodes.now }
 {
     copy.clear();
+    if nodes.is_empty() {
+        return;
+    }
     match copy.try_extend_from_slice(nodes) {
         Ok(()) => {}
         Err(_) => unreachable!(),

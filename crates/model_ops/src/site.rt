@@ -1,4 +1,4 @@
-ghost use Rattle.std.specs.Prelude.{◌≡◌, ◌<◌, IsSome, IfOk, Some, None};
+ghost use Rattle.std.specs.Prelude.{◌≡◌, ◌<◌, [], IsSome, IfOk, Some, None};
 ghost use Rattle.amoebot_state.specs.Limits.{most_vars};
 ghost use Rattle.amoebot_state.specs.Configs.{bot_at};
 ghost use Rattle.amoebot_state.specs.Refusals.{IsBotInRange};
@@ -167,8 +167,18 @@ impl Site {
         ensures { result ≡ changes self.now }
     {
         let mut patch = Patch::new();
-        self.draft.push_changes(&mut patch);
+        self.push_changes(&mut patch);
         patch
+    }
+
+    /// Adds the same cells to an empty patch.
+    #[inline(always)]
+    pub fn push_changes(&self, patch: &mut Patch)
+        requires none { patch.old ≡ [] }
+        requires reaches { Reaches (shown_alone self.now.found) (own_id self.now) self.now.reached }
+        ensures { patch.new ≡ changes self.now }
+    {
+        self.draft.push_changes(patch);
     }
 
     /// The amoebot itself, as it is now.

@@ -35,7 +35,7 @@ by_in (mark.Failed why place) = (0, 0, 0)
 by_in (mark.Busy cell by_caller by_turn by_bot place) = (by_caller, by_turn, by_bot)
 
 -- a turn is known by its caller, its number and its mark
-pub one_turn : (a b : Turn) → caller_of a ≡ caller_of b → turn_of a ≡ turn_of b → mark_of a ≡ mark_of b → a ≡ b
+pub one_turn : {W : Type 0} (a b : Turn W) → caller_of a ≡ caller_of b → turn_of a ≡ turn_of b → mark_of a ≡ mark_of b → a ≡ b
 one_turn (turn.Done r) (turn.Done q) c t m = λ i. turn.Done (record { caller = c i; turn = t i; place = ap place_of m i })
 one_turn (turn.Idle s) (turn.Idle r) c t m = λ i. turn.Idle (record { caller = c i; turn = t i; place = ap place_of m i })
 one_turn (turn.Failed w s) (turn.Failed v r) c t m = λ i. turn.Failed (ap (why_in w) m i) (record { caller = c i; turn = t i; place = ap place_of m i })
@@ -62,7 +62,7 @@ one_turn (turn.Busy r) (turn.Idle s) c t m = absurd (cc)
 one_turn (turn.Busy r) (turn.Failed w s) c t m = absurd (cc)
 
 -- the answer's mark is the last one of the caller
-pub answer_is_unique : {D : Type 0} (verdict : D → Shown → Verdict) → AnswerIsUnique verdict
-answer_is_unique verdict old new one two x y =
+pub answer_is_unique : {D : Type 0} (W : Type 0) (verdict : D → Shown → Verdict) → AnswerIsUnique W verdict
+answer_is_unique W verdict old new one two x y =
     let marks = ap (λ (k : Caller). k.marks) (sym x.gains ∙ y.gains) in
     one_turn one two (x.caller ∙ sym y.caller) (x.turn ∙ sym y.turn) (same_from_push (doing old).marks (doing old).marks (mark_of one) (mark_of two) marks).1

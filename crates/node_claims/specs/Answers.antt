@@ -18,19 +18,19 @@ use Rattle.node_claims.specs.declared.turn.Turn.{Turn}
 use Rattle.node_claims.specs.declared.turn.Turn.TheVariants as turn
 
 -- whose turn it was, which one, and its mark
-abbrev pub caller_of : Turn → ℕ
+abbrev pub caller_of : {W : Type 0} → Turn W → ℕ
 caller_of (turn.Done receipt) = receipt.caller
 caller_of (turn.Idle seen) = seen.caller
 caller_of (turn.Failed why seen) = seen.caller
 caller_of (turn.Busy by) = by.caller
 
-abbrev pub turn_of : Turn → ℕ
+abbrev pub turn_of : {W : Type 0} → Turn W → ℕ
 turn_of (turn.Done receipt) = receipt.turn
 turn_of (turn.Idle seen) = seen.turn
 turn_of (turn.Failed why seen) = seen.turn
 turn_of (turn.Busy by) = by.turn
 
-abbrev pub mark_of : Turn → Mark
+abbrev pub mark_of : {W : Type 0} → Turn W → Mark
 mark_of (turn.Done receipt) = mark.Done receipt.place
 mark_of (turn.Idle seen) = mark.Idle seen.place
 mark_of (turn.Failed why seen) = mark.Failed why seen.place
@@ -65,7 +65,7 @@ module _ {D : Type 0} (verdict : D → Shown → Verdict) where
 
   -- what the answer says is so: Busy that the claim was refused; the others that the claim was got, with this verdict on what it found; and
   -- Done that the entry of the change stands at its place
-  abbrev pub IsSo : Token D → Token D → Turn → Type 0
+  abbrev pub IsSo : {W : Type 0} → Token D → Token D → Turn W → Type 0
   IsSo old new (turn.Done receipt) =
       (held : Pairs) × (change : Change) × WasClaimed old held (decision.Change change)
       × (new ≡ committed_by old (mark.Done receipt.place) (commit_in old held change receipt.place))
@@ -76,7 +76,7 @@ module _ {D : Type 0} (verdict : D → Shown → Verdict) where
   IsSo old new (turn.Busy by) = WasRefused verdict old new by
 
   -- the answer is this turn's and is so, and the caller is at its next turn with the answer's mark, and nothing else
-  pub record HasAnswered (old new : Token D) (answer : Turn) : Type 0 where
+  pub record HasAnswered {W : Type 0} (old new : Token D) (answer : Turn W) : Type 0 where
     pub caller : caller_of answer ≡ number_in old
     pub turn : turn_of answer ≡ (doing old).turn
     pub so : IsSo old new answer

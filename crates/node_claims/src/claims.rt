@@ -6,18 +6,18 @@ ghost use Rattle.node_claims.specs.Claims.{IsClaimed, WasRefused, at_next, freed
 
 use amoebot_state::Decider;
 use claim_rule::{
-    Claimed, Field, Freeing, Refused, Seat, Seen, Settled, begin, end, free_last, look, refuse,
-    seal, unseal, unsettle, win,
+    Claimed, Field, Freeing, Manner, Refused, Seat, Seen, Settled, begin, end, free_last, look,
+    refuse, seal, unseal, unsettle, win,
 };
 
 /// Claims the zone of the caller's next turn, cell by cell in zone order. It stops at the first cell that another caller holds, and
 /// then frees what it has won; the turn has its mark.
-pub fn try_claim<D: Decider>(
-    seat: Seat<D>,
-    field: &Field<'_, D>,
+pub fn try_claim<D: Decider, W: Manner>(
+    seat: Seat<D, W>,
+    field: &Field<'_, D, W>,
     turn: u32,
     bot: u16,
-) -> Result<Claimed<D>, (Seat<D>, Refused)>
+) -> Result<Claimed<D, W>, (Seat<D, W>, Refused<W>)>
     requires field { IsOf field.now seat }
     requires turn { (turn ≡ (doing seat).turn) × (turn < (about D.verdict seat.view).lists.turns) }
     requires bot { bot ≡ bot_in D.verdict seat.view }
@@ -38,7 +38,7 @@ pub fn try_claim<D: Decider>(
 }
 
 /// Marks the turn of a claim whose verdict is Idle or Failed, at the length that the journal has while the zone is held.
-pub fn place<D: Decider>(claimed: &mut Claimed<D>, field: &Field<'_, D>) -> Seen
+pub fn place<D: Decider, W: Manner>(claimed: &mut Claimed<D, W>, field: &Field<'_, D, W>) -> Seen<W>
     requires field { IsOf field.now claimed.old }
     requires looks { IsToLook claimed.old }
     ensures marked { claimed.new ≡ goes claimed.old (marked_at (about D.verdict claimed.old.view) (doing claimed.old) result.place) }
@@ -50,7 +50,7 @@ pub fn place<D: Decider>(claimed: &mut Claimed<D>, field: &Field<'_, D>) -> Seen
 }
 
 /// Frees the zone of a turn that has its mark, the cell that was won last first. The values stay as they were found.
-pub fn release<D: Decider>(claimed: Claimed<D>, field: &Field<'_, D>) -> Seat<D>
+pub fn release<D: Decider, W: Manner>(claimed: Claimed<D, W>, field: &Field<'_, D, W>) -> Seat<D, W>
     requires field { IsOf field.now claimed }
     requires looked { IsMarked claimed }
     ensures { result ≡ goes claimed (at_next (about D.verdict claimed.view) (doing claimed).turn (doing claimed).marks) }
@@ -59,7 +59,10 @@ pub fn release<D: Decider>(claimed: Claimed<D>, field: &Field<'_, D>) -> Seat<D>
 }
 
 /// Frees the zone of a turn that has committed, the cell that was won last first. The values stay as they were committed.
-pub fn release_settled<D: Decider>(settled: Settled<D>, field: &Field<'_, D>) -> Seat<D>
+pub fn release_settled<D: Decider, W: Manner>(
+    settled: Settled<D, W>,
+    field: &Field<'_, D, W>,
+) -> Seat<D, W>
     requires { IsOf field.now settled }
     ensures { result ≡ goes settled (at_next (about D.verdict settled.view) (doing settled).turn (doing settled).marks) }
 {
@@ -67,7 +70,7 @@ pub fn release_settled<D: Decider>(settled: Settled<D>, field: &Field<'_, D>) ->
 }
 
 /// Frees all cells that are held.
-fn free_all<D: Decider>(freeing: Freeing<D>, field: &Field<'_, D>) -> Seat<D>
+fn free_all<D: Decider, W: Manner>(freeing: Freeing<D, W>, field: &Field<'_, D, W>) -> Seat<D, W>
     requires { IsOf field.now freeing }
     ensures { result ≡ freed_all D.verdict freeing }
 {

@@ -4,6 +4,6 @@ ghost use Rattle.node_claims.specs.Laws.{AnswerIsUnique};
 use amoebot_state::Decider;
 
 /// What an activation leaves of a seat has at most one answer.
-pub fn answer_is_unique<D: Decider>(_decider: &D)
-    ensures { AnswerIsUnique D.verdict }
+pub fn answer_is_unique<D: Decider, W>(_decider: &D)
+    ensures { AnswerIsUnique W D.verdict }
 {}

@@ -3,22 +3,22 @@ ghost use Rattle.node_claims.specs.Answers.{caller_of, turn_of, mark_of};
 
 use amoebot_state::Failure;
 use claim_core::Mark;
-use claim_rule::{Receipt, Refused, Seen};
+use claim_rule::{ByJournal, Receipt, Refused, Seen};
 
-/// What became of a turn. What it carries is made by steps on a field's words alone.
+/// What became of a turn. What it carries is made by steps on a field's words alone, all of one way of committing.
 #[derive(Drop)]
-pub enum Turn {
+pub enum Turn<W = ByJournal> {
     /// It committed its change.
-    Done(Receipt),
+    Done(Receipt<W>),
     /// No action was enabled.
-    Idle(Seen),
+    Idle(Seen<W>),
     /// Its action failed.
-    Failed(Failure, Seen),
+    Failed(Failure, Seen<W>),
     /// Another caller held a cell of its zone.
-    Busy(Refused),
+    Busy(Refused<W>),
 }
 
-impl Turn {
+impl<W> Turn<W> {
     /// The caller whose turn it was.
     pub fn caller(&self) -> u8
         ensures { result ≡ caller_of self.now }

@@ -1,5 +1,1 @@
-pub mod TakenSeats
-pub mod DeskLemmas
-pub mod WorkersLemmas
 pub mod WorkEnds
-pub mod Fixed

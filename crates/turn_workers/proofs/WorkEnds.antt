@@ -1,140 +1,36 @@
--- What is there before the first turn, and what all callers leave.
-use Rattle.std.proofs.Common.{◌≡◌, ℕ, zero, suc, ◌+◌, ◌≤◌, List, [], ◌∷◌, ◌++◌, map, length, take, drop, get_or, Option, Some, None, IfSome, IsSome, ap, sym, refl, ◌∙◌, subst, arith}
-use Rattle.std.specs.Prelude.{slice_get, if◌then◌else◌}
-use Rattle.std.specs.List.{All}
-use Rattle.std.proofs.lemmas.Bool.{le-ltb}
-use Rattle.std.proofs.lemmas.List.{length-map}
-use Rattle.std.proofs.lemmas.Option.{none-some, same_Some, slice_get_within, slice_get-get_or, get_or_from_slice_get}
-use mathlib.Core.List.{map-map}
+-- What is left once all turns are made and the field is closed.
+use Rattle.std.proofs.Common.{◌≡◌, List, [], ◌∷◌, map, length, Vec, Global, ap, sym, refl, ◌∙◌, subst}
+use Rattle.std.proofs.lemmas.List.{map-id}
 use Rattle.amoebot_state.specs.declared.verdict.Verdict.{Verdict}
-use Rattle.amoebot_state.specs.Zones.{Shown}
-use Rattle.claim_core.specs.declared.state.Caller.{Caller}
-use Rattle.claim_core.specs.declared.state.Phase.TheVariants.{Claim, Ended}
 use Rattle.amoebot_state.specs.Configs.{Config}
+use Rattle.amoebot_state.specs.Zones.{Shown}
 use Rattle.claim_core.specs.Turns.{MarkLists, Kept}
 use Rattle.claim_core.specs.Good.{Good}
 use Rattle.claim_core.specs.Reached.{Reached}
 use Rattle.claim_core.specs.Soundness.{IsSetup}
-use Rattle.claim_core.specs.Machine.{fresh}
-use Rattle.claim_core.proofs.Places.{map-get, get-map, of_a_list}
+use Rattle.claim_rule.specs.Manners.{by_journal}
 use Rattle.claim_rule.specs.Views.{setup_of_terms}
-use Rattle.claim_rule.specs.Tokens.{FieldOf, Token, number_in, doing}
+use Rattle.claim_rule.specs.Tokens.{FieldOf}
 use Rattle.claim_rule.specs.declared.views.Terms.{Terms}
 use Rattle.claim_rule.specs.Seating.{SeatsOf}
-use Rattle.claim_rule.specs.Stands.{records_from}
 use Rattle.claim_rule.specs.Closing.{ClosesAs, marks_at_seat}
-use Rattle.claim_rule.specs.Opened.{first_records, first_seats, seat_with}
 use Rattle.claim_rule.specs.Laws as laws
-use Rattle.claim_rule.proofs.Opens.{from}
-use Rattle.turn_workers.specs.declared.workers.Desk.{Desk}
-use Rattle.turn_workers.specs.Turns.{AreTurnsOf, marks_in}
-use Rattle.turn_workers.specs.Workers.{HasMade, HaveMade, AreClear, AreTaken, caller_between_turns, seat_at, turns_at}
+use Rattle.claim_rule.specs.declared.manner.ByJournal.{ByJournal}
+use Rattle.node_claims.specs.declared.turn.Turn.{Turn}
+use Rattle.turn_desks.specs.Desks.{AreAllMade}
+use Rattle.turn_desks.specs.Turns.{lists_told}
 
--- what two functions give of the elements at one place is one list
-maps_agree : {A B C : Type 0} (f : A → C) (g : B → C) (xs : List A) (ys : List B) → length xs ≡ length ys → ((k : ℕ) (x : A) (y : B) → slice_get xs k ≡ Some x → slice_get ys k ≡ Some y → f x ≡ g y) → map f xs ≡ map g ys
-maps_agree f g [] [] same each = refl
-maps_agree f g [] (y ∷ ys) same each = absurd (omega (arith, same))
-maps_agree f g (x ∷ xs) [] same each = absurd (omega (arith, same))
-maps_agree f g (x ∷ xs) (y ∷ ys) same each = λ i. each zero x y refl refl i ∷ maps_agree f g xs ys (omega (arith, same)) (λ k. each (suc k)) i
+-- they are a report that some interleaving gives
+pub is_report : {D : Type 0} (verdict : D → Shown → Verdict) (f : FieldOf D) (seats : SeatsOf D) (marks : MarkLists) (turns : List (List (Turn ByJournal))) → AreAllMade f seats marks turns
+    → (z : Terms D) → f.terms ≡ z → laws.EndedFieldIsReached verdict → IsSetup (setup_of_terms verdict z) → (world : Config) (journal : Kept) → ClosesAs by_journal verdict f.terms seats.seats world journal
+    → Reached (setup_of_terms verdict z) (record { world = world; journal = journal; turns = marks }) × Good (verdict z.decider) z.world z.lists (record { world = world; journal = journal; turns = marks })
+is_report {D} verdict f seats marks turns made z terms law run world journal closes =
+    let count = made.count ∙ ap (λ (y : Terms D). length y.lists.ids) terms in
+    let report = law z seats.seats world journal run count made.there made.ended (subst (λ (y : Terms D). ClosesAs by_journal verdict y seats.seats world journal) terms closes) in
+    let same : record { turns = z.lists.turns; marks = map marks_at_seat seats.seats } ≡ marks = sym (made.marks ∙ ap (λ (y : Terms D). record { turns = y.lists.turns; marks = map marks_at_seat seats.seats }) terms) in
+    subst (λ (ms : MarkLists). Reached (setup_of_terms verdict z) (record { world = world; journal = journal; turns = ms }) × Good (verdict z.decider) z.world z.lists (record { world = world; journal = journal; turns = ms })) same report
 
-is_there : {A : Type 0} (x : A) → IsSome (Some x)
-is_there x = refl
-
-module _ {D : Type 0} (verdict : D → Shown → Verdict) (f : FieldOf D) where
-  -- before the first turn
-  pub first_have : (desks : List (Desk D)) → AreClear f.terms.lists.turns ((first_seats verdict f).seats) desks → HaveMade verdict f 0 desks
-  first_have desks clear c d lt =
-      let desk = get_or desks c d in
-      let at = ap (λ xs. slice_get xs c) (sym clear.seats) ∙ get-map seat_at desks c desk (slice_get-get_or desks c d lt) in
-      let m = map-get (λ r. Some (seat_with f r)) (first_records verdict f.terms) c desk.seat at in
-      let is = from verdict f.terms 0 c (map (λ (_ : List ℕ). fresh (setup_of_terms verdict f.terms)) f.terms.lists.ids) m.0 m.1 in
-      let begun = map-get (λ (_ : List ℕ). fresh (setup_of_terms verdict f.terms)) f.terms.lists.ids c m.0.caller is.1 in
-      let room = clear.each c d lt in
-      let number_is : number_in (seat_with f m.0) ≡ c = omega (arith, is.0) in
-      record {
-        seat = seat_with f m.0;
-        there = sym m.2;
-        of = record { table = refl; terms = refl };
-        number = number_is;
-        doing = sym begun.2 ∙ ap (caller_between_turns (setup_of_terms verdict f.terms) 0) (sym (ap marks_in room.none));
-        count = ap length room.none;
-        room = room.room;
-        each = λ turn answer e. absurd (none-some answer (ap (λ xs. slice_get xs turn) (sym room.none) ∙ e));
-      }
-
-  module _ (t : ℕ) (all : t ≡ f.terms.lists.turns) (desks : List (Desk D)) (have : HaveMade verdict f t desks) where
-    has : (c : ℕ) (desk : Desk D) → slice_get desks c ≡ Some desk → HasMade verdict f c t desk
-    has c desk at = subst (HasMade verdict f c t) (get_or_from_slice_get desks c desk desk at) (have c desk (slice_get_within desks c desk at))
-
-    -- the seats at the desks are those that were taken
-    pub are_taken : (s : SeatsOf D) → s.table ≡ f.table → s.terms ≡ Some f.terms → (before : List (Desk D)) → s.seats ≡ map (λ _. None) before → length before ≡ length desks → AreTaken s desks
-    are_taken s table terms before out count = record {
-      out = out ∙ maps_agree (λ _. None) (λ _. None) before desks count (λ k x y e h. refl);
-      each = λ c desk at.
-          let h = has c desk at in
-          (h.seat, h.there, h.number, h.of.table ∙ sym table, h.of.terms ∙ sym terms);
-    }
-
-    each_seat : (P : Option (Token D) → Type 0) → ((desk : Desk D) (c : ℕ) → HasMade verdict f c t desk → P desk.seat) → All P (map seat_at desks)
-    each_seat P each c d lt =
-        let m = map-get seat_at desks c (get_or (map seat_at desks) c d) (slice_get-get_or (map seat_at desks) c d lt) in
-        subst P m.2 (each m.0 c (has c m.0 m.1))
-
-    -- all are there, and have ended
-    pub all_there : All (λ seat. IsSome seat) (map seat_at desks)
-    all_there = each_seat (λ seat. IsSome seat) (λ desk c h. subst (λ o. IsSome o) (sym h.there) (is_there h.seat))
-
-    pub all_ended : All (λ seat. IfSome seat (λ token. (doing token).phase ≡ Ended)) (map seat_at desks)
-    all_ended = each_seat (λ seat. IfSome seat (λ token. (doing token).phase ≡ Ended)) (λ desk c h.
-        subst (λ o. IfSome o (λ token. (doing token).phase ≡ Ended)) (sym h.there)
-        (ap (λ (k : Caller). k.phase) h.doing ∙ ap (λ b. if b then Claim else Ended) (le-ltb t f.terms.lists.turns (let le : f.terms.lists.turns ≤ t = omega (arith, all) in le))))
-
-    -- their marks are those of what became of their turns
-    pub marks_are : map marks_at_seat (map seat_at desks) ≡ map marks_in (map turns_at desks)
-    marks_are = map-map marks_at_seat seat_at desks ∙ maps_agree (λ d. marks_at_seat (seat_at d)) (λ d. marks_in (turns_at d)) desks desks refl (λ c x y at of.
-        let same = same_Some x y (sym at ∙ of) in
-        let h = has c x at in
-        ap marks_at_seat h.there ∙ ap (λ (k : Caller). k.marks) h.doing ∙ ap (λ d. marks_in (turns_at d)) same) ∙ sym (map-map marks_in turns_at desks)
-
-    -- there are as many turns as a caller has
-    pub all_turns : All (λ own. length own ≡ t) (map turns_at desks)
-    all_turns c d lt =
-        let m = map-get turns_at desks c (get_or (map turns_at desks) c d) (slice_get-get_or (map turns_at desks) c d lt) in
-        subst (λ own. length own ≡ t) m.2 (has c m.0 m.1).count
-
-    -- and each is of its caller and number
-    pub are_turns : (marks : MarkLists) → marks.marks ≡ map marks_in (map turns_at desks) → AreTurnsOf marks (map turns_at desks)
-    are_turns marks is = record {
-      marks = is;
-      each = λ c k answer e.
-          let own = of_a_list (map turns_at desks) c k answer e in
-          let m = map-get turns_at desks c own.0 own.1 in
-          (has c m.0 m.1).each k answer (ap (λ xs. slice_get xs k) m.2 ∙ own.2);
-    }
-
-    -- once the field is closed, they are a report that some interleaving gives
-    pub is_report : (z : Terms D) → f.terms ≡ z → laws.EndedFieldIsReached verdict → IsSetup (setup_of_terms verdict z) → length desks ≡ length z.lists.ids
-        → (seats : List (Option (Token D))) → seats ≡ map seat_at desks → (world : Config) (journal : Kept) → ClosesAs verdict f.terms seats world journal
-        → (marks : MarkLists) → marks ≡ record { turns = z.lists.turns; marks = map marks_in (map turns_at desks) }
-        → Reached (setup_of_terms verdict z) (record { world = world; journal = journal; turns = marks }) × Good (verdict z.decider) z.world z.lists (record { world = world; journal = journal; turns = marks })
-    is_report z terms law run count seats are world journal closes marks told =
-        let report = law z (map seat_at desks) world journal run (length-map desks seat_at ∙ count) all_there all_ended (subst (λ (p : Terms D × List (Option (Token D))). ClosesAs verdict p.0 p.1 world journal) (λ i. (terms i, are i)) closes) in
-        let same : record { turns = z.lists.turns; marks = map marks_at_seat (map seat_at desks) } ≡ marks = ap (λ ms. record { turns = z.lists.turns; marks = ms }) marks_are ∙ sym told in
-        subst (λ (ms : MarkLists). Reached (setup_of_terms verdict z) (record { world = world; journal = journal; turns = ms }) × Good (verdict z.decider) z.world z.lists (record { world = world; journal = journal; turns = ms })) same report
-
--- a vector whose elements were written through a slice has these
-pub written : {A : Type 0} (now old : List A) (n : ℕ) → length now ≡ length old → n ≡ length old → take n (now ++ drop (length now) old) ≡ now
-written [] [] zero same is = refl
-written [] [] (suc n) same is = absurd (omega (arith, is))
-written [] (y ∷ old) n same is = absurd (omega (arith, same))
-written (x ∷ now) [] n same is = absurd (omega (arith, same))
-written (x ∷ now) (y ∷ old) zero same is = absurd (omega (arith, is))
-written (x ∷ now) (y ∷ old) (suc n) same is = ap (λ xs. x ∷ xs) (written now old n (omega (arith, same)) (omega (arith, is)))
-
--- there are as many seats as callers
-pub seats_count : {D : Type 0} (verdict : D → Shown → Verdict) (f : FieldOf D) → length ((first_seats verdict f).seats) ≡ length f.terms.lists.ids
-seats_count verdict f = length-map (first_records verdict f.terms) (λ r. Some (seat_with f r)) ∙ count 0 (map (λ (_ : List ℕ). fresh (setup_of_terms verdict f.terms)) f.terms.lists.ids) ∙ length-map f.terms.lists.ids (λ (_ : List ℕ). fresh (setup_of_terms verdict f.terms))
-  where
-    count : (b : ℕ) (ks : List Caller) → length (records_from verdict f.terms b ks) ≡ length ks
-    count b [] = refl
-    count b (k ∷ ks) = let e = count (b + 1) ks in omega (arith, e)
+-- where the answers are the turns themselves
+pub told_is : (turns : List (Vec (Turn ByJournal) Global)) → lists_told (λ turn. turn) turns ≡ map (λ own. own.items) turns
+told_is [] = refl
+told_is (own ∷ turns) = λ i. map-id own.items i ∷ told_is turns i

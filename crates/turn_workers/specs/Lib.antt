@@ -1,8 +1,7 @@
-pub mod Turns
-pub mod Workers
-pub mod Laws
 pub use Rattle.amoebot_state.specs.Configs
 pub use Rattle.claim_core.specs.Good
 pub use Rattle.claim_core.specs.Limits
 pub use Rattle.claim_core.specs.Reached
 pub use Rattle.claim_rule.specs.Views
+pub use Rattle.turn_desks.specs.Laws
+pub use Rattle.turn_desks.specs.Turns

@@ -1,7 +1,7 @@
 ghost use Rattle.std.specs.Prelude.{◌≡◌, ◌<◌, length, Some};
-ghost use Rattle.turn_workers.specs.Turns.{turn_at, turns_of};
+ghost use Rattle.turn_desks.specs.Turns.{turn_at, turns_of};
 
-use activation::Turn;
+use node_claims::Turn;
 use std::marker::Model;
 
 /// What became of each turn of each caller, as the activation of that turn answered it.
@@ -12,9 +12,10 @@ pub struct Turns {
 
 impl Model for Turns {
     ghost use Rattle.std.specs.Prelude.{List, map};
+    ghost use Rattle.claim_rule.specs.declared.manner.ByJournal.{ByJournal};
     ghost use Rattle.node_claims.specs.declared.turn.Turn.{Turn};
 
-    ghost Value = { List (List Turn) };
+    ghost Value = { List (List (Turn ByJournal)) };
 
     ghost view = { λ t. map (λ v. v.items) t.turns.items };
 }

@@ -6,6 +6,7 @@ ghost use Rattle.claim_rule.specs.Seating.{spent};
 ghost use Rattle.claim_rule.specs.Internal.{dealt, joined_view, left_view};
 
 use crate::field::Field;
+use crate::manner::Manner;
 use crate::views::{Slot, View};
 use amoebot_state::Decider;
 use atomic_table::{Join, Seat as TableSeat, Split};
@@ -28,7 +29,7 @@ impl<D> Join<View<D>> for Gather {
     ghost spent = { spent };
 }
 
-impl<'d, D: Decider> Field<'d, D> {
+impl<'d, D: Decider, W: Manner> Field<'d, D, W> {
     /// A new seat, with the first record.
     pub(crate) fn deal(&self, seat: &mut TableSeat<Slot, View<D>>) -> TableSeat<Slot, View<D>>
         requires field { seat.old.table_id ≡ self.now.table }

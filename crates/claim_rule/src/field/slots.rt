@@ -9,12 +9,13 @@ ghost use Rattle.claim_rule.specs.Commits.{HasRoomForEntry, IsPushed};
 ghost use Rattle.claim_rule.specs.Internal.{IsSameSeat};
 
 use crate::field::Field;
+use crate::manner::Manner;
 use crate::views::{Slot, View};
 use amoebot_state::{Cell, Decider, Entry};
 use atomic_table::Seat;
 
-impl<'d, D: Decider> Field<'d, D> {
-    /// Reads the value in the slot of the body that was won last.
+impl<'d, D: Decider, W: Manner> Field<'d, D, W> {
+    /// Reads the value in the slot of the plain cell that was won last.
     pub(crate) fn cell_there(&self, seat: &mut Seat<Slot, View<D>>, slot: usize) -> Cell
         requires table { seat.old.table_id ≡ self.now.table }
         requires won { (x : Cell) × (seat.old.me.1 ≡ (slot, filling.Cell x) ∷ rest seat.old.me.1) }
@@ -28,7 +29,7 @@ impl<'d, D: Decider> Field<'d, D> {
         }
     }
 
-    /// Puts a value into the slot of the body that was won last. It is written only where the slot is stale: else it is there.
+    /// Puts a value into the slot of the plain cell that was won last. It is written only where the slot is stale: else it is there.
     pub(crate) fn put_there(
         &self,
         seat: &mut Seat<Slot, View<D>>,
@@ -48,7 +49,9 @@ impl<'d, D: Decider> Field<'d, D> {
             }
         }
     }
+}
 
+impl<'d, D: Decider> Field<'d, D> {
     /// Pushes an entry to the journal, whose slot was taken last. It returns the number of entries before it.
     pub(crate) fn push_entry(&self, seat: &mut Seat<Slot, View<D>>, entry: Entry) -> u32
         requires table { seat.old.table_id ≡ self.now.table }

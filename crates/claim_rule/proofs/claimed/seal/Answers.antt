@@ -13,7 +13,7 @@ pub seal-requires-clause-whole : goal.seal-requires-clause-whole
 seal-requires-clause-whole g c =
     let r = c.held.inside.activation.room.value in
     subst (λ (q : Room). IsShown (shown_in q)) (sym c.deref_mut.ensures.value)
-    (whole_is_shown g.D.Decider.verdict c.held.inside.activation.seat.me _ _ _ _ _ (reverse r.cells) _ c.held.invariant.0 r.cells r.walls.items c.held.invariant.1 refl c.held.invariant.3 (ap (next_in g.D.Decider.verdict) c.held.view_is ∙ c.requires.whole))
+    (whole_is_shown g.D.Decider.verdict g.W.Manner.way c.held.inside.activation.seat.me _ _ _ _ _ (reverse r.cells) _ c.held.invariant.0 r.cells r.walls.items c.held.invariant.1 refl c.held.invariant.3 (ap (next_in g.D.Decider.verdict) c.held.view_is ∙ c.requires.whole))
 
 pub invariant_of-result : goal.invariant_of-result
 invariant_of-result g c =
@@ -22,5 +22,5 @@ invariant_of-result g c =
     let new = c.seal.new.self in
     let now = c.seal.ensures.same ∙ ap (λ (q : Room). record q { found = new.found }) c.deref_mut.ensures.value in
     let kept : new.found ≡ Some (shown_in r) = c.seal.ensures.found ∙ ap (λ (q : Room). Some (shown_in q)) c.deref_mut.ensures.value in
-    let whole = whole_is_held g.D.Decider.verdict m _ _ _ _ _ (reverse r.cells) _ c.held.invariant.0 r.cells r.walls.items r.after c.held.invariant.1 refl c.held.invariant.3 (ap (next_in g.D.Decider.verdict) c.held.view_is ∙ c.requires.whole) in
-    subst (λ (q : Room). KeepsRoom g.D.Decider.verdict m q × KeepsFound g.D.Decider.verdict m q) (sym now) (c.held.invariant.0, record { told = shown_in r; kept = kept; whole = whole })
+    let whole = whole_is_held g.D.Decider.verdict g.W.Manner.way m _ _ _ _ _ (reverse r.cells) _ c.held.invariant.0 r.cells r.walls.items r.after c.held.invariant.1 refl c.held.invariant.3 (ap (next_in g.D.Decider.verdict) c.held.view_is ∙ c.requires.whole) in
+    subst (λ (q : Room). KeepsRoom g.D.Decider.verdict g.W.Manner.way m q × KeepsFound g.D.Decider.verdict m q) (sym now) (c.held.invariant.0, record { told = shown_in r; kept = kept; whole = whole })

@@ -2,4 +2,4 @@ use Rattle.claim_rule.proofs.Made.{claim_is_next}
 use Rattle.claim_rule.proofs.step_laws.claim_is_next.Goals as goal
 
 pub returns : goal.returns
-returns g c = claim_is_next g.D.Decider.verdict
+returns g c = λ way z. claim_is_next g.D.Decider.verdict z way

@@ -4,6 +4,7 @@ use Rattle.amoebot_state.specs.Pairs.{Pairs, plain_patch}
 use Rattle.amoebot_state.specs.Steps.{change_of}
 use Rattle.claim_core.specs.Machine.{patched_pair}
 use Rattle.claim_core.proofs.MachineLemmas.{reverse-map}
+use Rattle.claim_rule.specs.Manners.{by_journal}
 use Rattle.claim_rule.specs.declared.activation.Room.{Room}
 use Rattle.claim_rule.specs.Commits.{IsPushed}
 use Rattle.claim_rule.specs.Tokens.{IsActivation, IsFreeing, frame_of}
@@ -30,4 +31,4 @@ invariant_of-result g c =
     let all = has_stored g.D.Decider.verdict taken.activation.seat.me _ _ _ _ _ _ _ (change_of taken.entry) c.taken.invariant.0 _ did.0 did.2 place did.1 c.push_entry-place.new.seat.me m _
     did.3 c.store_length.ensures.told.0 c.store_length.ensures.told.1 did.5 (ap reverse cells ∙ reverse-map (patched_pair (plain_patch taken.entry.patch)) r.cells) in
     let held = reverse room.cells in
-    subst (λ (q : Room). IsActivation g.D.Decider.verdict m q.caller q.turn q.bot q.stale (frame_of q.area q.maxes) held (reverse q.notes) × IsFreeing g.D.Decider.verdict m q.turn held (place + 1) × (0 < length held)) (sym now) (all.0, all.1, all.2)
+    subst (λ (q : Room). IsActivation g.D.Decider.verdict by_journal m q.caller q.turn q.bot q.stale (frame_of q.area q.maxes) held (reverse q.notes) × IsFreeing g.D.Decider.verdict m q.turn held (place + 1) × (0 < length held)) (sym now) (all.0, all.1, all.2)

@@ -3,6 +3,7 @@ use Rattle.amoebot_state.specs.declared.verdict.Change.{Change}
 use Rattle.amoebot_state.specs.declared.verdict.Entry.{Entry}
 use Rattle.amoebot_state.specs.Pairs.{plain_patch}
 use Rattle.amoebot_state.specs.Steps.{change_of, entry_of}
+use Rattle.claim_rule.specs.Manners.{by_journal}
 use Rattle.claim_rule.specs.declared.activation.Room.{Room}
 use Rattle.claim_rule.specs.Views.{Seated, setup_at}
 use Rattle.claim_rule.specs.Stands.{journal_slot}
@@ -18,9 +19,9 @@ invariant_of-result g c =
     let m = c.take_journal-word.new.seat.me in
     let now = c.ready-entry.ensures.same ∙ ap (λ (q : Room). record q { changes = room.changes }) c.deref_mut.ensures.value in
     let r = c.claimed.inside.activation.room.value in
-    let stays = subst (λ (n : Seated g.row.D.Denot). KeepsRoom g.D.Decider.verdict n r × KeepsFound g.D.Decider.verdict n r) (sym (c.take_journal-word.ensures.told.1 c.if-word-ne0.true).0) c.claimed.invariant in
+    let stays = subst (λ (n : Seated g.row.D.Denot). KeepsRoom g.D.Decider.verdict by_journal n r × KeepsFound g.D.Decider.verdict n r) (sym (c.take_journal-word.ensures.told.1 c.if-word-ne0.true).0) c.claimed.invariant in
     let found = stays.1 in
-    subst (λ (q : Room). KeepsRoom g.D.Decider.verdict m q × KeepsFound g.D.Decider.verdict m q) (sym now) (stays.0, record { told = found.told; kept = found.kept; whole = found.whole })
+    subst (λ (q : Room). KeepsRoom g.D.Decider.verdict by_journal m q × KeepsFound g.D.Decider.verdict m q) (sym now) (stays.0, record { told = found.told; kept = found.kept; whole = found.whole })
 
 pub invariant_of-result-2 : goal.invariant_of-result-2
 invariant_of-result-2 g c =

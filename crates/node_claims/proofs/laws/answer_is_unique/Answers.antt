@@ -2,4 +2,4 @@ use Rattle.node_claims.proofs.Answered.{answer_is_unique}
 use Rattle.node_claims.proofs.laws.answer_is_unique.Goals as goal
 
 pub returns : goal.returns
-returns g c = answer_is_unique g.D.Decider.verdict
+returns g c = answer_is_unique _ g.D.Decider.verdict

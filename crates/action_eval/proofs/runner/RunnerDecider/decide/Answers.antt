@@ -21,18 +21,18 @@ actions_decide-requires-clause-placed c =
 pub returns-in-Ok-Some : goal.returns-in-Ok-Some
 returns-in-Ok-Some c =
     c.change_made.ensures
-    ∙ made_is _ _ _ c.args.found.now _ _ c.actions_decide.ensures (c.in-Ok-Some.is ∙ ap Ok c.in-Ok-Some.field-0-is) c.new-site.ensures
-    ∙ verdict_is c.program-program.result.now c.args.found.now c.new-site.result c.guard.result c.vars.result.now c.actions.result.now _ c.guard.ensures c.new-site.ensures c.vars.ensures c.actions.ensures.actions c.new-names.ensures
+    ∙ made_is _ _ _ c.args.found.now _ _ c.actions_decide.ensures (c.in-Ok-Some.is ∙ ap Ok c.in-Ok-Some.field-0-is) c.new.ensures
+    ∙ verdict_is c.program-program.result.now c.args.found.now c.new.result c.guard.result c.vars.result.now c.actions.result.now _ c.guard.ensures c.new.ensures c.vars.ensures c.actions.ensures.actions c.new-names.ensures
     ∙ ap (λ p. verdict_shown p c.args.found.now) (c.program-program.ensures.program ∙ c.self.view_is)
 
 pub returns-in-Ok-None : goal.returns-in-Ok-None
 returns-in-Ok-None c =
     idle_is _ _ _ _ c.actions_decide.ensures (c.in-Ok-None.is ∙ ap Ok c.in-Ok-None.field-0-is)
-    ∙ verdict_is c.program-program.result.now c.args.found.now c.new-site.result c.guard.result c.vars.result.now c.actions.result.now _ c.guard.ensures c.new-site.ensures c.vars.ensures c.actions.ensures.actions c.new-names.ensures
+    ∙ verdict_is c.program-program.result.now c.args.found.now c.new.result c.guard.result c.vars.result.now c.actions.result.now _ c.guard.ensures c.new.ensures c.vars.ensures c.actions.ensures.actions c.new-names.ensures
     ∙ ap (λ p. verdict_shown p c.args.found.now) (c.program-program.ensures.program ∙ c.self.view_is)
 
 pub returns-in-Err : goal.returns-in-Err
 returns-in-Err c =
     failed_is _ _ _ _ _ c.actions_decide.ensures c.in-Err.is
-    ∙ verdict_is c.program-program.result.now c.args.found.now c.new-site.result c.guard.result c.vars.result.now c.actions.result.now _ c.guard.ensures c.new-site.ensures c.vars.ensures c.actions.ensures.actions c.new-names.ensures
+    ∙ verdict_is c.program-program.result.now c.args.found.now c.new.result c.guard.result c.vars.result.now c.actions.result.now _ c.guard.ensures c.new.ensures c.vars.ensures c.actions.ensures.actions c.new-names.ensures
     ∙ ap (λ p. verdict_shown p c.args.found.now) (c.program-program.ensures.program ∙ c.self.view_is)

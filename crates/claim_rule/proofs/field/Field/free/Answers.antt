@@ -9,8 +9,8 @@ pub store-requires : goal.store-requires
 store-requires g c =
     let me = c.args.seat.now.me in
     let alone = alone_of c.self.view_is c.requires.may.alone in
-    let to = subst (λ (m : Seated _). IsToFree g.D.Decider.verdict c.args.cell m) (λ i. (alone i, me.1)) c.requires.last in (
+    let to = subst (λ (m : Seated _). IsToFree g.D.Decider.verdict g.W.Manner.way c.args.cell m) (λ i. (alone i, me.1)) c.requires.last in (
       of_table c.self.view_is c.requires.may.table,
       omega (arith, to.inside, c.self.invariant.words),
-      release_allowed g.D.Decider.verdict _ c.self.invariant.run _ _ me c.args.cell alone c.requires.last,
+      release_allowed g.D.Decider.verdict _ g.W.Manner.way c.self.invariant.run _ _ me c.args.cell alone c.requires.last,
     )

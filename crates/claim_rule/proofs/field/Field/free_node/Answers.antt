@@ -11,5 +11,5 @@ store-requires g c =
     let to = subst (IsToFreeNode g.D.Decider.verdict c.args.cell c.args.word) alone c.requires.last in (
       of_table c.self.view_is c.requires.may.table,
       omega (arith, to.placed.1, c.self.invariant.words),
-      node_release_allowed g.D.Decider.verdict _ c.self.invariant.run _ _ me c.args.cell c.args.word alone c.requires.last,
+      node_release_allowed g.D.Decider.verdict _ c.self.invariant.run _ c.requires.words _ _ me c.args.cell c.args.word alone c.requires.last,
     )

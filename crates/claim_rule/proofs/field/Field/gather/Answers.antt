@@ -14,5 +14,5 @@ join_seat-requires g c =
       c.requires.field.1 ∙ table,
       ap (λ (m : Seated g.row.D.Denot). m.1) other.1,
       omega (arith, c.self.invariant.words),
-      joins_views _ _ c.args.seat.now.id c.args.other.id _ _ own.0 other.0 (own.1 ∙ ap (λ (f : FieldOf g.row.D.Denot). view_of f.terms own.0) (sym c.self.view_is)) (ap (λ (m : Seated g.row.D.Denot). m.0) other.1 ∙ ap (λ (f : FieldOf g.row.D.Denot). view_of f.terms other.0) (sym c.self.view_is)),
+      joins_views _ _ g.W.Manner.way c.args.seat.now.id c.args.other.id _ _ own.0 other.0 (own.1 ∙ ap (λ (f : FieldOf g.row.D.Denot). view_of f.terms own.0) (sym c.self.view_is)) (ap (λ (m : Seated g.row.D.Denot). m.0) other.1 ∙ ap (λ (f : FieldOf g.row.D.Denot). view_of f.terms other.0) (sym c.self.view_is)),
     )

@@ -11,5 +11,5 @@ load-requires g c =
     let to = subst (IsToTryNode g.D.Decider.verdict c.args.cell) alone c.requires.next in (
       of_table c.self.view_is c.requires.may.table,
       omega (arith, to.placed.1, c.self.invariant.words),
-      look_allowed g.D.Decider.verdict _ c.self.invariant.run _ _ me c.args.cell alone c.requires.next,
+      look_allowed g.D.Decider.verdict _ c.self.invariant.run _ c.requires.words _ _ me c.args.cell alone c.requires.next,
     )

@@ -13,5 +13,5 @@ load-requires g c =
     let slots = c.self.inside.table.shared.table_id.slots in
     let z = field_terms c.self.inside.table.shared.key.decider.now c.self.inside.table.shared.key.world c.self.inside.table.shared.key.lists.now in
     let alone = alone_of c.self.view_is c.requires.may.alone in
-    on_journal c.self.view_is (λ w. Allows (KeepsRule g.D.Decider.verdict z) slots c.args.seat.now.id me w (λ x. x) (ReadsLength g.D.Decider.verdict (step slots w 0 0 none) me)) c.requires.may.table c.journal_number-journal.ensures.word c.journal_number-journal.ensures.number
-    (look_allowed g.D.Decider.verdict z c.self.invariant.run slots _ me alone c.requires.reads)
+    on_journal c.self.view_is (λ w. Allows (KeepsRule g.D.Decider.verdict z g.W.Manner.way) slots c.args.seat.now.id me w (λ x. x) (ReadsLength g.D.Decider.verdict g.W.Manner.way (step slots w 0 0 none) me)) c.requires.may.table c.journal_number-journal.ensures.word c.journal_number-journal.ensures.number
+    (look_allowed g.D.Decider.verdict z g.W.Manner.way c.self.invariant.run slots _ me alone c.requires.reads)

@@ -11,5 +11,5 @@ compare_exchange-requires g c =
     let to = subst (IsToWin g.D.Decider.verdict c.args.cell c.args.noted c.args.tagged) alone c.requires.next in (
       of_table c.self.view_is c.requires.may.table,
       omega (arith, to.tries.placed.1, c.self.invariant.words),
-      try_allowed g.D.Decider.verdict _ c.self.invariant.run _ _ me c.args.cell c.args.noted c.args.tagged alone c.requires.next,
+      try_allowed g.D.Decider.verdict _ c.self.invariant.run _ c.requires.words _ _ me c.args.cell c.args.noted c.args.tagged alone c.requires.next,
     )

@@ -1,0 +1,6 @@
+pub mod DrawnLists
+pub mod MergeSteps
+pub mod OwnMerges
+pub mod OwnLemmas
+pub mod TicketEnds
+pub mod TicketReports

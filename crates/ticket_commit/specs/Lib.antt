@@ -1,0 +1,17 @@
+pub mod OwnLists
+pub mod Own
+pub mod Laws
+pub use Rattle.amoebot_state.specs.Configs
+pub use Rattle.claim_core.specs.Good
+pub use Rattle.claim_core.specs.Limits
+pub use Rattle.claim_core.specs.Merges
+pub use Rattle.claim_core.specs.Reached
+pub use Rattle.claim_core.specs.Tickets
+pub use Rattle.claim_core.specs.Turns
+pub use Rattle.claim_rule.specs.Closing
+pub use Rattle.claim_rule.specs.Opened
+pub use Rattle.claim_rule.specs.Plays
+pub use Rattle.claim_rule.specs.Seating
+pub use Rattle.claim_rule.specs.Tokens
+pub use Rattle.claim_rule.specs.Views
+pub use Rattle.node_claims.specs.Answers

@@ -1,0 +1,28 @@
+-- The lists in which callers keep what they committed, as contracts see them.
+use Rattle.std.specs.Prelude.{◌≡◌, ◌≢◌, ℕ, ◌<◌, ◌≤◌, List, length, slice_get}
+use Rattle.std.specs.declared.option.Option.{Option}
+use Rattle.std.specs.declared.option.Option.TheVariants.{Some, None}
+use Rattle.amoebot_state.specs.declared.verdict.Entry.{Entry}
+use Rattle.claim_core.specs.Limits.{most_turns}
+use Rattle.claim_core.specs.Merges.{own_of, IsMerge}
+use Rattle.ticket_commit.specs.declared.merging.Drawn.{Drawn}
+
+-- an entry with the place that it drew
+abbrev pub drawn_pair : Drawn → ℕ × Entry
+drawn_pair d = (d.place, d.entry)
+
+-- the lists have a merge, for which there is so much room
+pub record HasMerge (lists : List (List (ℕ × Entry))) (spare : ℕ) : Type 0 where
+  pub journal : List Entry
+  pub merge : IsMerge lists journal
+  pub room : length journal ≤ spare
+  pub few : length journal ≤ most_turns
+
+-- a list begins with this place
+abbrev pub BeginsAt : ℕ → List (ℕ × Entry) → Type 0
+BeginsAt place own = (e : Entry) × (slice_get own 0 ≡ Some (place, e))
+
+-- the list that begins with this place, if one does
+abbrev pub IsListAt : List (List (ℕ × Entry)) → ℕ → Option ℕ → Type 0
+IsListAt lists place (Some c) = (c < length lists) × BeginsAt place (own_of lists c)
+IsListAt lists place None = (c : ℕ) (p : ℕ × Entry) → slice_get (own_of lists c) 0 ≡ Some p → p.0 ≢ place

@@ -1,0 +1,24 @@
+//! Commits that wait for nobody: a field on which a commit draws its place, turns on it, and the merge of what the callers committed.
+#![tactic(auto)]
+
+mod activating;
+mod close;
+mod desks;
+mod field;
+mod laws;
+mod merging;
+mod own;
+mod seat;
+mod seats;
+mod turning;
+mod turns;
+mod working;
+
+pub use activating::{TicketTurn, activate_ticket};
+pub use field::TicketField;
+pub use laws::own_list_is_one;
+pub use merging::{Drawn, merge};
+pub use seat::TicketSeat;
+pub use seats::TicketSeats;
+pub use turns::TicketTurns;
+pub use working::{TicketWorked, work_tickets};

@@ -1,0 +1,32 @@
+ghost use Rattle.std.specs.Prelude.{◌≡◌, ◌<◌, length, Some};
+ghost use Rattle.turn_desks.specs.Turns.{turn_at, turns_of};
+
+use crate::activating::TicketTurn;
+use std::marker::Model;
+
+/// What became of each turn of each caller, as `activate_ticket` answered that turn.
+#[derive(Drop)]
+pub struct TicketTurns {
+    pub(crate) turns: Vec<Vec<TicketTurn>>,
+}
+
+impl Model for TicketTurns {
+    ghost use Rattle.std.specs.Prelude.{List, map};
+    ghost use Rattle.claim_rule.specs.declared.manner.ByTicket.{ByTicket};
+    ghost use Rattle.node_claims.specs.declared.turn.Turn.{Turn};
+
+    ghost Value = { List (List (Turn ByTicket)) };
+
+    ghost view = { λ t. map (λ v. v.items) t.turns.items };
+}
+
+impl TicketTurns {
+    /// What became of a turn of a caller of the lists.
+    pub fn turn(&self, caller: u8, turn: u32) -> &TicketTurn
+        requires caller { caller < length self.now }
+        requires turn { turn < length (turns_of self.now caller) }
+        ensures { turn_at self.now caller turn ≡ Some result.now }
+    {
+        &self.turns[usize::from(caller)][turn as usize]
+    }
+}

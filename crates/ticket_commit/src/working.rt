@@ -1,0 +1,93 @@
+ghost use Rattle.std.specs.Prelude.{◌≡◌, length, IfOk, IsSome};
+ghost use Rattle.std.specs.List.{All};
+ghost use Rattle.amoebot_state.specs.Configs.{bot_at};
+ghost use Rattle.claim_core.specs.Good.{Good};
+ghost use Rattle.claim_core.specs.Reached.{Reached};
+ghost use Rattle.claim_core.specs.Tickets.{TicketReached};
+ghost use Rattle.claim_rule.specs.Views.{setup_of_terms, field_terms};
+ghost use Rattle.turn_desks.specs.Turns.{AreTurnsOf};
+
+use crate::desks::{clear, seat_all};
+use crate::field::TicketField;
+use crate::turning::{ByTickets, activate_all};
+use crate::turns::TicketTurns;
+use activation::Gate;
+use amoebot_state::{Decider, NoMemory, World, has_next, touches_zone};
+use claim_core::{Core, Lists, Marks, Report};
+use claim_rule::ended_tickets_are_reached;
+use std::alloc::Global;
+use std::sync::Wait;
+use std::thread::Threads;
+use turn_desks::copy_marks;
+
+/// What the workers leave: the report, and for each turn what its activation answered.
+#[derive(Drop)]
+pub struct TicketWorked {
+    pub report: Report,
+    pub turns: TicketTurns,
+}
+
+/// Makes the turns of all callers, each caller's in their order by a worker of its own. Commits draw their places, so no worker waits for
+/// another one's commit. All memory is taken before the first claim.
+pub fn work_tickets<R: Threads + Wait + Sync, D: Decider, G: Gate>(
+    rt: &R,
+    alloc: Global,
+    decider: &D,
+    world: World,
+    lists: &Lists,
+    gate: &G,
+) -> Result<TicketWorked, NoMemory>
+    requires { All (All (λ id. IsSome (bot_at world id))) lists.now.ids }
+    ensures ticketed { IfOk result (λ worked.
+        TicketReached (setup_of_terms D.verdict (field_terms decider.now world lists.now)) worked.report) }
+    ensures reached { IfOk result (λ worked. Reached (setup_of_terms D.verdict (field_terms decider.now world lists.now)) worked.report) }
+    ensures good { IfOk result (λ worked. Good (D.verdict decider.now) world lists.now worked.report) }
+    ensures turns { IfOk result (λ worked. AreTurnsOf worked.report.turns worked.turns) }
+{
+    if lists.callers() == 0 {
+        return rest(alloc, decider, world, lists);
+    }
+    world.keeps();
+    touches_zone(decider);
+    has_next(decider);
+    ended_tickets_are_reached(decider);
+    let mut marks = Marks::make(alloc, lists.callers(), lists.turns())?;
+    let room = Vec::with_capacity(alloc, usize::from(lists.callers()))?;
+    let (field, mut seats) = TicketField::make(alloc, decider, world, lists)?;
+    let mut desks = seat_all(alloc, lists.callers(), lists.turns(), &mut seats)?;
+    activate_all(rt, &field, lists, gate, desks.as_mut_slice());
+    let turns = clear(&mut seats, desks, room);
+    copy_marks(&ByTickets { field: &field }, &mut marks, turns.as_slice());
+    let (world, journal) = field.close(seats);
+    Ok(TicketWorked {
+        report: Report {
+            world,
+            journal,
+            turns: marks,
+        },
+        turns: TicketTurns { turns },
+    })
+}
+
+/// What is left where there is no caller.
+fn rest<D: Decider>(
+    alloc: Global,
+    decider: &D,
+    world: World,
+    lists: &Lists,
+) -> Result<TicketWorked, NoMemory>
+    requires { length lists.now.ids ≡ 0 }
+    ensures ticketed { IfOk result (λ worked.
+        TicketReached (setup_of_terms D.verdict (field_terms decider.now world lists.now)) worked.report) }
+    ensures reached { IfOk result (λ worked. Reached (setup_of_terms D.verdict (field_terms decider.now world lists.now)) worked.report) }
+    ensures good { IfOk result (λ worked. Good (D.verdict decider.now) world lists.now worked.report) }
+    ensures turns { IfOk result (λ worked. AreTurnsOf worked.report.turns worked.turns) }
+{
+    let core = Core::make(alloc, decider, world, lists)?;
+    Ok(TicketWorked {
+        report: core.report(),
+        turns: TicketTurns {
+            turns: Vec::new(alloc),
+        },
+    })
+}

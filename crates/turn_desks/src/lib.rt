@@ -1,0 +1,13 @@
+//! The turns of all callers, each caller's by a worker of its own, whatever one turn is.
+#![tactic(auto)]
+
+mod laws;
+mod marks;
+mod start;
+mod turning;
+mod workers;
+
+pub use laws::turns_are_one;
+pub use marks::copy_marks;
+pub use turning::Turning;
+pub use workers::{Desk, make_all};
