@@ -50,15 +50,14 @@ fn a_field_is_closed_before_its_first_turn(rt: HostRuntime) -> Result<(), Fail> 
     Ok(())
 }
 
-/// How many of four calls give a seat.
-fn seats_given(seats: &mut TicketSeats<Marker>) -> u32 {
-    let mut given = 0;
-    for _call in 0..4 {
-        if seats.take().is_some() {
-            given = given.saturating_add(1u32);
-        }
-    }
-    given
+/// Whether each of four calls gives a seat.
+fn seats_given(seats: &mut TicketSeats<Marker>) -> [bool; 4] {
+    [
+        seats.take().is_some(),
+        seats.take().is_some(),
+        seats.take().is_some(),
+        seats.take().is_some(),
+    ]
 }
 
 #[test]
@@ -66,6 +65,7 @@ fn each_seat_is_given_once(rt: HostRuntime) -> Result<(), Fail> {
     let world = four_in(rt.alloc())?;
     let lists = lists_of(rt.alloc(), 2, &world, &[&[0, 1], &[2, 3]])?;
     let (_field, mut seats) = field_of(rt.alloc(), world, &lists)?;
-    assert_eq!(rt; seats_given(&mut seats), 2);
+    let given = seats_given(&mut seats);
+    assert_eq!(rt; given, [true, true, false, false]);
     Ok(())
 }
