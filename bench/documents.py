@@ -11,6 +11,7 @@ TURNS_OF_EACH = 16
 
 OUT = "action out when contracted move expand head 0"
 MARK = "var m 1\naction mark when m = 0 do m := 1"
+BLINK = "var m 1\naction blink when true do m := 1 - m"
 
 
 def program_of(example):
@@ -95,6 +96,11 @@ def mark(side):
     return document(side, MARK, middle(side), "0")
 
 
+def blink(side):
+    """Each turn commits."""
+    return document(side, BLINK, middle(side), "0")
+
+
 def expands(nodes):
     return lambda side: document(side, OUT, nodes(side))
 
@@ -108,6 +114,7 @@ RUNS = {
     "line": line,
     "walled": walled,
     "mark": mark,
+    "blink": blink,
 }
 
 

@@ -7,6 +7,7 @@ use Rattle.outer_io.specs.declared.writing.Sink.{Ghosts as SinkOf}
 use Rattle.claim_core.specs.declared.report.Report.{Report}
 use Rattle.shape_files.specs.Documents.{Contents}
 use Rattle.claim_rule.specs.declared.manner.ByJournal.{ByJournal}
+use Rattle.claim_rule.specs.declared.manner.ByTicket.{ByTicket}
 use Rattle.node_claims.specs.declared.turn.Turn.{Turn}
 use Rattle.shipped_programs.specs.declared.shipped.Shipped.{Shipped}
 use Rattle.command_words.specs.declared.command.Command.{Command}
@@ -20,7 +21,7 @@ use Rattle.text_tokens.specs.Kinds.{name}
 use Rattle.command_answers.specs.Lines.{refusal_line, too_long}
 use Rattle.command_answers.specs.Laws.{OwedIsOne, SameOwed, DocumentsHaveOutcomes, ReportsAreOfTurns, ReportsAreOfDocuments, ReportsAreOfSamples}
 use Rattle.command_answers.specs.Reads.{Read, nothing, whole, above, up_to_fault, some}
-use Rattle.command_answers.specs.Outcomes.{IsOutcome, of_run, of_interleave, agreeing, differing, of_check, of_measure, renewing, renew_differing, no_place, unwound, not_unwound, rounded, not_rounded, no_erosion, not_ready, not_elected, elected}
+use Rattle.command_answers.specs.Outcomes.{IsOutcome, of_run, of_tickets, of_interleave, agreeing, differing, of_check, of_measure, renewing, renew_differing, no_place, unwound, not_unwound, rounded, not_rounded, no_erosion, not_ready, not_elected, elected}
 use Rattle.command_answers.specs.Owed.{IsOwed, usage, read_fault, longer, refused, served, shown, sampled}
 use Rattle.amoebot_run.specs.declared.ended.Ended.{Ended}
 use Rattle.amoebot_run.specs.Clauses.{WroteAll, WroteFront}
@@ -30,27 +31,27 @@ use Rattle.amoebot_run.specs.Parts.{IsEndOfWriting, all, front}
 -- ---- how a call ended, from what was written
 
 pub ending_of : {K : Type 0} {sink : SinkOf K} {old new : K} {command : Option Command} {Reads : Read → Type 0} {Untouched : Type 0}
-    (read : Read) (s : Status) (report : Option Report) (turns : Option (List (List (Turn ByJournal)))) (text : List ℕ) (ended : Ended) → Reads read → IsOwed command read s report text
-    → IsEndOfWriting sink old new s report turns text ended
+    (read : Read) (s : Status) (report : Option Report) (turns : Option (List (List (Turn ByJournal)))) (tickets : Option (List (List (Turn ByTicket)))) (text : List ℕ) (ended : Ended) → Reads read → IsOwed command read s report text
+    → IsEndOfWriting sink old new s report turns tickets text ended
     → IsEnding command Reads (WroteAll sink old new) (WroteFront sink old new) Untouched ended.status ended.report
-ending_of read s report turns text _ reads owes (all writes) = written read s report text reads owes writes
-ending_of read s report turns text _ reads owes (front writes) = cut read s report text reads owes writes
+ending_of read s report turns tickets text _ reads owes (all writes) = written read s report text reads owes writes
+ending_of read s report turns tickets text _ reads owes (front writes) = cut read s report text reads owes writes
 
 module _ {K : Type 0} (sink : SinkOf K) {old new : K} where
-  pub is_written : (s : Status) (report : Option Report) (turns : Option (List (List (Turn ByJournal)))) (text bytes : List ℕ) (ended : Ended) → bytes ≡ text → WroteAll sink old new bytes → ended ≡ record { status = s; report = report; turns = turns }
-      → IsEndOfWriting sink old new s report turns text ended
-  is_written s report turns text bytes ended same writes e = subst (λ r. IsEndOfWriting sink old new s report turns text r) (sym e) (all (subst (WroteAll sink old new) same writes))
+  pub is_written : (s : Status) (report : Option Report) (turns : Option (List (List (Turn ByJournal)))) (tickets : Option (List (List (Turn ByTicket)))) (text bytes : List ℕ) (ended : Ended) → bytes ≡ text → WroteAll sink old new bytes → ended ≡ record { status = s; report = report; turns = turns; tickets = tickets }
+      → IsEndOfWriting sink old new s report turns tickets text ended
+  is_written s report turns tickets text bytes ended same writes e = subst (λ r. IsEndOfWriting sink old new s report turns tickets text r) (sym e) (all (subst (WroteAll sink old new) same writes))
 
-  pub is_cut : (s : Status) (report : Option Report) (turns : Option (List (List (Turn ByJournal)))) (text bytes : List ℕ) (ended : Ended) → bytes ≡ text → WroteFront sink old new bytes → ended ≡ record { status = status.WriteFault; report = None; turns = None }
-      → IsEndOfWriting sink old new s report turns text ended
-  is_cut s report turns text bytes ended same writes e = subst (λ r. IsEndOfWriting sink old new s report turns text r) (sym e) (front (subst (WroteFront sink old new) same writes))
+  pub is_cut : (s : Status) (report : Option Report) (turns : Option (List (List (Turn ByJournal)))) (tickets : Option (List (List (Turn ByTicket)))) (text bytes : List ℕ) (ended : Ended) → bytes ≡ text → WroteFront sink old new bytes → ended ≡ record { status = status.WriteFault; report = None; turns = None; tickets = None }
+      → IsEndOfWriting sink old new s report turns tickets text ended
+  is_cut s report turns tickets text bytes ended same writes e = subst (λ r. IsEndOfWriting sink old new s report turns tickets text r) (sym e) (front (subst (WroteFront sink old new) same writes))
 
 pub too_long_line : codes "refused 0 TooLong\n" ≡ refusal_line too_long
 unfolding name digits
 too_long_line = refl
 
 -- memory was wanting
-pub without : {command : Option Command} {Reads : Read → Type 0} {Writes Cuts : List ℕ → Type 0} {Untouched : Type 0} (read : Read) (ended : Ended) → ended ≡ record { status = status.NoMemory; report = None; turns = None } → Reads read → IsReadWithinLimit read → Untouched
+pub without : {command : Option Command} {Reads : Read → Type 0} {Writes Cuts : List ℕ → Type 0} {Untouched : Type 0} (read : Read) (ended : Ended) → ended ≡ record { status = status.NoMemory; report = None; turns = None; tickets = None } → Reads read → IsReadWithinLimit read → Untouched
     → IsEnding command Reads Writes Cuts Untouched ended.status ended.report
 without {command = command} {Reads = Reads} {Writes = Writes} {Cuts = Cuts} {Untouched = Untouched} read ended e reads within untouched = subst (λ (r : Ended). IsEnding command Reads Writes Cuts Untouched r.status r.report) (sym e) (wanting read reads within untouched)
 
@@ -194,6 +195,7 @@ Cause command read s = ⊤
 
 cause_of_outcome : (a : Contents) (c : DocumentCommand) (bytes : List ℕ) (s : Status) (report : Option Report) (text : List ℕ) → IsOutcome a c s report text → Cause (Some (Document c)) (whole bytes) s
 cause_of_outcome a c bytes s report text (of_run d r good reached serial) = tt
+cause_of_outcome a c bytes s report text (of_tickets d r good reached serial) = tt
 cause_of_outcome a c bytes s report text (of_interleave d schedule r its_schedule good reached scheduled) = tt
 cause_of_outcome a c bytes s report text (agreeing d es agrees) = tt
 cause_of_outcome a c bytes s report text (differing d place differs) = tt

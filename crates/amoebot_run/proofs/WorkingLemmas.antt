@@ -1,32 +1,82 @@
--- Which calls have turns.
-use Rattle.std.proofs.Common.{◌≡◌, ℕ, List, Option, Some, None, refl, sym, subst}
+-- Which calls have turns, and in which of the two places.
+use Rattle.std.proofs.Common.{◌≡◌, ℕ, List, Option, Some, None, refl, sym, subst, ap, ◌∙◌}
 use Rattle.std.proofs.lemmas.Bool.{false≢true}
 use Rattle.claim_core.specs.declared.report.Report.{Report}
 use Rattle.outer_io.specs.declared.writing.Sink.{Ghosts as SinkOf}
 use Rattle.claim_rule.specs.declared.manner.ByJournal.{ByJournal}
+use Rattle.claim_rule.specs.declared.manner.ByTicket.{ByTicket}
 use Rattle.node_claims.specs.declared.turn.Turn.{Turn}
 use Rattle.command_words.specs.declared.command.Command.{Command}
+use Rattle.command_answers.specs.declared.answer.Maker.{Maker}
+use Rattle.command_answers.specs.declared.answer.Maker.TheVariants as maker
 use Rattle.command_answers.specs.declared.status.Status.{Status}
 use Rattle.command_answers.specs.declared.status.Status.TheVariants as status
-use Rattle.command_answers.specs.Commands.{IsWorked}
+use Rattle.command_answers.specs.Answers.{turn_maker}
+use Rattle.command_answers.specs.Commands.{AreTickets, AreWorkers, HaveWorkers, IsTicketed, IsWorked, NeedsWorkers, TurnMaker, maker_of, no_maker, the_schedule, the_workers, the_tickets}
 use Rattle.amoebot_run.specs.declared.ended.Ended.{Ended}
-use Rattle.amoebot_run.specs.Parts.{IsEndOfWriting, all, front}
-use Rattle.amoebot_run.specs.Working.{HasTurns}
+use Rattle.amoebot_run.specs.declared.making.Made.{Made}
+use Rattle.amoebot_run.specs.Parts.{HasTold, IsEndOfWriting, all, front}
+use Rattle.amoebot_run.specs.Working.{HasTickets, HasTurns}
 
--- a call that is not done, or whose command no workers work, has none
-pub no_turns : (c : Option Command) (s : Status) (report : Option Report) → (s ≡ status.Done → IsWorked c → ⊥) → HasTurns c s report None
+-- what became of the turns comes where it has to
+pub record HasBoth (c : Option Command) (s : Status) (report : Option Report) (turns : Option (List (List (Turn ByJournal)))) (tickets : Option (List (List (Turn ByTicket)))) : Type 0 where
+  pub turns_there : HasTurns c s report turns
+  pub tickets_there : HasTickets c s report tickets
+
+-- what a call that has ended has of it
+abbrev pub HasItsTurns : Option Command → Ended → Type 0
+HasItsTurns c ended = HasBoth c ended.status ended.report ended.turns ended.tickets
+
+-- ---- calls that have none
+
+no_turns : (c : Option Command) (s : Status) (report : Option Report) → (s ≡ status.Done → IsWorked c → ⊥) → HasTurns c s report None
 no_turns c s report never = record { exactly = ((λ some. absurd (false≢true some)), λ both. absurd (never both.0 both.1)); marked = tt }
 
+no_tickets : (c : Option Command) (s : Status) (report : Option Report) → (s ≡ status.Done → IsTicketed c → ⊥) → HasTickets c s report None
+no_tickets c s report never = record { exactly = ((λ some. absurd (false≢true some)), λ both. absurd (never both.0 both.1)); marked = tt }
+
+workers_work : (m : TurnMaker) → AreWorkers m → HaveWorkers m
+workers_work no_maker are = are
+workers_work the_schedule are = are
+workers_work the_workers are = are
+workers_work the_tickets are = tt
+
+tickets_work : (m : TurnMaker) → AreTickets m → HaveWorkers m
+tickets_work no_maker are = are
+tickets_work the_schedule are = are
+tickets_work the_workers are = tt
+tickets_work the_tickets are = are
+
+-- a call that is not done, or whose command needs no workers, has none
+pub none_told : (c : Option Command) (s : Status) (report : Option Report) → (s ≡ status.Done → NeedsWorkers c → ⊥) → HasBoth c s report None None
+none_told c s report never = record {
+  turns_there = no_turns c s report (λ done are. never done (workers_work (maker_of c) are));
+  tickets_there = no_tickets c s report (λ done are. never done (tickets_work (maker_of c) are));
+}
+
+-- ---- calls that have some
+
+-- what workers have made has them where it has to
+pub told_by_maker : (c : Option Command) (m : Maker) (made : Made) → maker_of c ≡ turn_maker m → HasTold m made → HasBoth c status.Done (Some made.report) made.turns made.tickets
+told_by_maker c maker.Workers made its (turns, there, none, marked) = record {
+  turns_there = subst (HasTurns c status.Done (Some made.report)) (sym there) (record { exactly = ((λ some. (refl, subst AreWorkers (sym its) tt)), λ both. refl); marked = (made.report, refl, marked) });
+  tickets_there = subst (HasTickets c status.Done (Some made.report)) (sym none) (no_tickets c status.Done (Some made.report) (λ done are. subst AreTickets its are));
+}
+told_by_maker c maker.Tickets made its (tickets, none, there, marked) = record {
+  turns_there = subst (HasTurns c status.Done (Some made.report)) (sym none) (no_turns c status.Done (Some made.report) (λ done are. subst AreWorkers its are));
+  tickets_there = subst (HasTickets c status.Done (Some made.report)) (sym there) (record { exactly = ((λ some. (refl, subst AreTickets (sym its) tt)), λ both. refl); marked = (made.report, refl, marked) });
+}
+
 -- a call has the turns of what it has written
-pub turns_of : {K : Type 0} {sink : SinkOf K} {old new : K} (c : Option Command) (s : Status) (report : Option Report) (turns : Option (List (List (Turn ByJournal)))) (text : List ℕ) (ended : Ended)
-    → HasTurns c s report turns → IsEndOfWriting sink old new s report turns text ended → HasTurns c ended.status ended.report ended.turns
-turns_of c s report turns text _ has (all writes) = has
-turns_of c s report turns text _ has (front writes) = no_turns c status.WriteFault None (λ done worked. cc)
+pub turns_of : {K : Type 0} {sink : SinkOf K} {old new : K} (c : Option Command) (s : Status) (report : Option Report) (turns : Option (List (List (Turn ByJournal)))) (tickets : Option (List (List (Turn ByTicket)))) (text : List ℕ) (ended : Ended)
+    → HasBoth c s report turns tickets → IsEndOfWriting sink old new s report turns tickets text ended → HasItsTurns c ended
+turns_of c s report turns tickets text _ has (all writes) = has
+turns_of c s report turns tickets text _ has (front writes) = none_told c status.WriteFault None (λ done needs. cc)
 
 -- a call that was not done has none
 pub line_turns : {K : Type 0} {sink : SinkOf K} {old new : K} (c : Option Command) (s : Status) (text : List ℕ) (ended : Ended)
-    → (s ≡ status.Done → ⊥) → IsEndOfWriting sink old new s None None text ended → HasTurns c ended.status ended.report ended.turns
-line_turns c s text ended not written = turns_of c s None None text ended (no_turns c s None (λ done worked. not done)) written
+    → (s ≡ status.Done → ⊥) → IsEndOfWriting sink old new s None None None text ended → HasItsTurns c ended
+line_turns c s text ended not written = turns_of c s None None None text ended (none_told c s None (λ done needs. not done)) written
 
-pub without_turns : (c : Option Command) (ended : Ended) → ended ≡ record { status = status.NoMemory; report = None; turns = None } → HasTurns c ended.status ended.report ended.turns
-without_turns c ended is = subst (λ (e : Ended). HasTurns c e.status e.report e.turns) (sym is) (no_turns c status.NoMemory None (λ done worked. cc))
+pub without_turns : (c : Option Command) (ended : Ended) → ended ≡ record { status = status.NoMemory; report = None; turns = None; tickets = None } → HasItsTurns c ended
+without_turns c ended is = subst (HasItsTurns c) (sym is) (none_told c status.NoMemory None (λ done needs. cc))

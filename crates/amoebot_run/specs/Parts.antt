@@ -3,33 +3,47 @@ use Rattle.std.specs.Prelude.{◌≡◌, ℕ, List}
 use Rattle.std.specs.declared.option.Option.{Option}
 use Rattle.std.specs.declared.option.Option.TheVariants.{Some, None}
 use Rattle.outer_io.specs.declared.writing.Sink.{Ghosts as SinkOf}
+use Rattle.amoebot_state.specs.Configs.{Config}
 use Rattle.claim_core.specs.declared.report.Report.{Report}
+use Rattle.claim_core.specs.Turns.{CallerLists}
+use Rattle.claim_core.specs.Good.{Good}
+use Rattle.claim_core.specs.Machine.{setup}
 use Rattle.claim_rule.specs.declared.manner.ByJournal.{ByJournal}
+use Rattle.claim_rule.specs.declared.manner.ByTicket.{ByTicket}
 use Rattle.node_claims.specs.declared.turn.Turn.{Turn}
+use Rattle.turn_desks.specs.Turns.{AreTurnsOf}
+use Rattle.action_tree.specs.Trees.{Program}
+use Rattle.action_meaning.specs.Verdicts.{verdict_shown}
 use Rattle.command_words.specs.declared.command.Command.{Command}
+use Rattle.command_answers.specs.declared.answer.Maker.{Maker}
+use Rattle.command_answers.specs.declared.answer.Maker.TheVariants as maker
 use Rattle.command_answers.specs.declared.answer.Prepared.{Prepared}
 use Rattle.command_answers.specs.declared.status.Status.{Status}
 use Rattle.command_answers.specs.declared.status.Status.TheVariants as status
-use Rattle.command_answers.specs.Answers.{IsPrepared}
+use Rattle.command_answers.specs.Answers.{IsPrepared, ReachedBy}
 use Rattle.command_answers.specs.Reads.{Read}
 use Rattle.amoebot_run.specs.declared.ended.Ended.{Ended}
 use Rattle.amoebot_run.specs.declared.begin.Begun.{Begun}
 use Rattle.amoebot_run.specs.declared.begin.Begun.TheVariants as begun
+use Rattle.amoebot_run.specs.declared.making.Made.{Made}
 use Rattle.amoebot_run.specs.Clauses.{WroteAll, WroteFront}
 use Rattle.amoebot_run.specs.Endings.{IsEnding, IsReadWithinLimit}
-use Rattle.amoebot_run.specs.Working.{HasTurns}
+use Rattle.amoebot_run.specs.Working.{HasTickets, HasTurns}
 
 -- ---- what is written
 
--- A text was written whole, and the call ends with this status, this report and these turns; or a write of it failed.
+-- A text was written whole, and the call ends with this status, this report and what became of the turns; or a write of it failed.
 pub data IsEndOfWriting
     {K : Type 0} (sink : SinkOf K) (old new : K)
-    (s : Status) (report : Option Report) (turns : Option (List (List (Turn ByJournal)))) (text : List ℕ)
+    (s : Status) (report : Option Report)
+    (turns : Option (List (List (Turn ByJournal)))) (tickets : Option (List (List (Turn ByTicket)))) (text : List ℕ)
     : Ended → Type 0 where
   all : WroteAll sink old new text
-      → IsEndOfWriting sink old new s report turns text (record { status = s; report = report; turns = turns })
+      → IsEndOfWriting sink old new s report turns tickets text
+      (record { status = s; report = report; turns = turns; tickets = tickets })
   front : WroteFront sink old new text
-      → IsEndOfWriting sink old new s report turns text (record { status = status.WriteFault; report = None; turns = None })
+      → IsEndOfWriting sink old new s report turns tickets text
+      (record { status = status.WriteFault; report = None; turns = None; tickets = None })
 
 -- ---- the first part
 
@@ -40,6 +54,7 @@ pub data IsBegun
   has_ended : (ended : Ended)
       → IsEnding command Reads Writes Cuts Untouched ended.status ended.report
       → HasTurns command ended.status ended.report ended.turns
+      → HasTickets command ended.status ended.report ended.tickets
       → IsBegun command Reads Writes Cuts Untouched (begun.Ended ended)
   is_to_run : (run : Prepared) (read : Read) → Untouched → Reads read → IsReadWithinLimit read → IsPrepared command read run
       → IsBegun command Reads Writes Cuts Untouched (begun.Run run)
@@ -49,14 +64,29 @@ abbrev pub HasEnded : Begun → (Status → Type 0) → Type 0
 HasEnded (begun.Ended ended) Ends = Ends ended.status
 HasEnded (begun.Run run) Ends = ⊥
 
+-- ---- the middle part
+
+-- what became of a report's turns stands where those who made them put it, and the other place is empty
+abbrev pub HasTold : Maker → Made → Type 0
+HasTold maker.Workers made =
+    (turns : List (List (Turn ByJournal)))
+    × (made.turns ≡ Some turns) × (made.tickets ≡ None) × AreTurnsOf made.report.turns turns
+HasTold maker.Tickets made =
+    (tickets : List (List (Turn ByTicket)))
+    × (made.turns ≡ None) × (made.tickets ≡ Some tickets) × AreTurnsOf made.report.turns tickets
+
+-- the report is a good one of the lists' turns under the program, from the shape on, and the steps of those who made them give it
+pub record IsMade (m : Maker) (p : Program) (start : Config) (lists : CallerLists) (made : Made) : Type 0 where
+  pub good : Good (verdict_shown p) start lists made.report
+  pub reached : ReachedBy m (setup (verdict_shown p) start lists) made.report
+  pub told : HasTold m made
+
 -- ---- the last part
 
 -- A text that tells the report was written, or a write of it failed; or it was out of memory and nothing was written.
-pub data IsEndedRun
-    {K : Type 0} (sink : SinkOf K) (old new : K) (Text : List ℕ → Type 0) (report : Report) (turns : List (List (Turn ByJournal)))
-    : Ended → Type 0 where
+pub data IsEndedRun {K : Type 0} (sink : SinkOf K) (old new : K) (Text : List ℕ → Type 0) (made : Made) : Ended → Type 0 where
   told : (text : List ℕ) (ended : Ended) → Text text
-      → IsEndOfWriting sink old new status.Done (Some report) (Some turns) text ended
-      → IsEndedRun sink old new Text report turns ended
+      → IsEndOfWriting sink old new status.Done (Some made.report) made.turns made.tickets text ended
+      → IsEndedRun sink old new Text made ended
   untold : new ≡ old
-      → IsEndedRun sink old new Text report turns (record { status = status.NoMemory; report = None; turns = None })
+      → IsEndedRun sink old new Text made (record { status = status.NoMemory; report = None; turns = None; tickets = None })

@@ -11,7 +11,7 @@ ghost use Rattle.command_answers.specs.Reads.{nothing};
 ghost use Rattle.amoebot_run.specs.Clauses.{CameTo, WroteAll, WroteFront, asked};
 ghost use Rattle.amoebot_run.specs.Endings.{IsEnding};
 ghost use Rattle.amoebot_run.specs.Parts.{HasEnded, IsBegun};
-ghost use Rattle.amoebot_run.specs.Working.{HasTurns};
+ghost use Rattle.amoebot_run.specs.Working.{HasTickets, HasTurns};
 
 use crate::ended::{Ended, end_with, end_with_answer, end_with_line};
 use amoebot_state::NoMemory;
@@ -33,7 +33,7 @@ pub enum Begun {
 
 /// What is written where the words are no command.
 const USAGE: &str =
-    "usage: run / interleave / replay / check / measure / show NAME / sample NUMBER / renew / rewind NUMBER / rounds / elect\n";
+    "usage: run / interleave / replay / check / measure / show NAME / sample NUMBER / renew / rewind NUMBER / rounds / elect / tickets\n";
 
 /// What is written where a read failed.
 const READ_FAULT: &str = "read fault\n";
@@ -101,7 +101,7 @@ fn begin_document<S: Source, K: Sink>(
         Err(NoMemory) => return Begun::Ended(end_with(Status::NoMemory)),
     };
     match task {
-        Task::Answered(answer) => Begun::Ended(end_with_answer(out, answer, None)),
+        Task::Answered(answer) => Begun::Ended(end_with_answer(out, answer, None, None)),
         Task::Run(prepared) => Begun::Run(prepared),
     }
 }
@@ -112,11 +112,12 @@ fn end_show<K: Sink>(alloc: Global, program: Shipped, out: &mut K) -> Ended
         (WroteAll K.Sink out.old out.new) (WroteFront K.Sink out.old out.new) (out.new ≡ out.old)
         result.status result.report }
     ensures turns { HasTurns (Some (Command.Show program)) result.status result.report result.turns }
+    ensures tickets { HasTickets (Some (Command.Show program)) result.status result.report result.tickets }
 {
     let Ok(answer) = answer_show(alloc, program) else {
         return end_with(Status::NoMemory);
     };
-    end_with_answer(out, answer, None)
+    end_with_answer(out, answer, None, None)
 }
 
 /// Makes a sample, whose lists workers are to run. It reads and writes nothing.

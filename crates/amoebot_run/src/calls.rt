@@ -1,4 +1,4 @@
-//! The top calls. They alone may wait: all that they call returns, apart from `work`, which starts the workers.
+//! The top calls. They may wait: all that they call returns, apart from `make_turns`, which starts the workers.
 
 ghost use Rattle.std.specs.Prelude.{◌≡◌, ◌≢◌, ◌≤◌, ◌↔◌, ◌⊎◌, ℕ, true, List, length, IsSome, IfSome, Option, Some, None};
 ghost use Rattle.std.specs.List.{list_any};
@@ -17,11 +17,12 @@ ghost use Rattle.command_answers.specs.OfSample.{six_lines};
 ghost use Rattle.amoebot_run.specs.Clauses.{CameTo, WroteAll, WroteFront, asked};
 ghost use Rattle.amoebot_run.specs.Endings.{HasText, IsAnswered, IsEnding, IsOutsideFault, IsReadingOf};
 ghost use Rattle.amoebot_run.specs.Endings.{IsReportOfCall, IsServed, IsUnwritten};
-ghost use Rattle.amoebot_run.specs.Working.{HasTurns};
+ghost use Rattle.amoebot_run.specs.Working.{HasTickets, HasTurns};
 
 use crate::begin::{Begun, begin};
 use crate::ended::{Ended, end_with};
 use crate::finish::finish;
+use crate::making::make_turns;
 use activation::{Gate, NoGate};
 use amoebot_state::NoMemory;
 use command_answers::{
@@ -32,14 +33,13 @@ use outer_io::{Sink, Source, SureSink, SureSource, text_is_kept_as_one_piece};
 use std::alloc::Global;
 use std::sync::Wait;
 use std::thread::Threads;
-use turn_workers::work;
 
 /// Does what the words ask for: it reads a document of the command's form, if the command reads one, and writes its text.
 ///
 /// The words are judged first. Then the input is read to its end, and the document is judged.
 /// Then the command does its work, and the whole text is made before the first byte is written.
 /// The line of a failed read takes no memory, nor does that of an input that is too long.
-/// The lists of `run` and of a sample are run by workers, which call the gate.
+/// The lists of `run`, of `tickets` and of a sample are run by workers, which call the gate.
 pub fn run<R: Threads + Wait + Sync, S: Source, K: Sink, G: Gate>(
     rt: &R,
     alloc: Global,
@@ -58,6 +58,8 @@ pub fn run<R: Threads + Wait + Sync, S: Source, K: Sink, G: Gate>(
 
     // What became of each turn comes exactly with Done of `run` and `sample`, and its mark is the report's.
     ensures turns { HasTurns (asked words.now) result.status result.report result.turns }
+    // So it is of `tickets`. Its turns are answers of activations whose commits draw their places.
+    ensures tickets { HasTickets (asked words.now) result.status result.report result.tickets }
 
     // Where a word begins with `-`, being out of memory does not hide that the words are no command.
     ensures dash { list_any (λ word. begins_with_dash (string_bytes word)) words.now ≡ true
@@ -67,7 +69,7 @@ pub fn run<R: Threads + Wait + Sync, S: Source, K: Sink, G: Gate>(
 
     // All clauses from here on follow from `ending`, by the laws of `command_answers`: they say what it comes to.
 
-    // A report comes exactly with Done of `run`, `interleave` and `sample`.
+    // A report comes exactly with Done of `run`, `interleave`, `tickets` and `sample`.
     // Then the input was read to its end, the bytes read are a document, the report is a good one of its run, and its text was written.
     // Or the report is a good one of the sample's run, and the six lines that tell so were written.
     ensures report { IsSome result.report ↔ ((result.status ≡ Status.Done) × MakesTurns (asked words.now)) }
@@ -76,7 +78,8 @@ pub fn run<R: Threads + Wait + Sync, S: Source, K: Sink, G: Gate>(
         (WroteAll K.Sink out.old out.new)) }
 
     // What is owed for an input that reports its bytes is what the call answers, unless it is out of memory or a read or a write fails:
-    // the status, and where the input decides what is written, the report and the text. With at most one list it does so for `run`.
+    // the status, and where the input decides what is written, the report and the text. With at most one list it does so for `run` and
+    // `tickets`.
     ensures determined { (document : List ℕ) (s : StatusValue) (report : Option ReportValue) (text : List ℕ)
         → S.left input.old ≡ Some document → length document ≤ limit_for (asked words.now)
         → IsOwed (asked words.now) (whole document) s report text
@@ -123,14 +126,15 @@ pub fn run<R: Threads + Wait + Sync, S: Source, K: Sink, G: Gate>(
         world,
         lists,
         telling,
+        maker,
     } = prepared;
-    match work(rt, alloc, &runner, world, &lists, gate) {
-        Ok(worked) => finish(alloc, out, telling, &runner, &lists, worked),
+    match make_turns(rt, alloc, maker, &runner, world, &lists, gate) {
+        Ok(made) => finish(alloc, out, telling, &runner, &lists, made),
         Err(NoMemory) => end_with(Status::NoMemory),
     }
 }
 
-/// `run` over bytes in memory and without a gate. Each clause but `turns` follows from `ending`.
+/// `run` over bytes in memory and without a gate. Each clause but `turns` and `tickets` follows from `ending`.
 ///
 /// Where it is out of memory for a copy of the bytes, that is its status, whatever the words are.
 /// The sink is left as one write of the text or line leaves it.
@@ -152,6 +156,7 @@ pub fn run_text<R: Threads + Wait + Sync>(
         (IsReadingOf (limit_for (asked words.now)) bytes.now)
         (HasText out.old out.new)) }
     ensures turns { HasTurns (asked words.now) result.status result.report result.turns }
+    ensures tickets { HasTickets (asked words.now) result.status result.report result.tickets }
 
     // What is owed for the bytes is what the call answers, unless it is out of memory. So it is of what is owed where nothing is read.
     ensures determined { (s : StatusValue) (report : Option ReportValue) (text : List ℕ)

@@ -6,6 +6,7 @@ ghost use Rattle.amoebot_run.specs.Parts.{IsEndOfWriting};
 use claim_core::Report;
 use command_answers::{Answer, Status};
 use outer_io::{Sink, WriteFault, write_all};
+use ticket_commit::TicketTurns;
 use turn_workers::Turns;
 
 /// How a command ended, and what a run left.
@@ -13,23 +14,27 @@ use turn_workers::Turns;
 pub struct Ended {
     pub status: Status,
     pub report: Option<Report>,
+    /// What became of the turns, after `run` and `sample`.
     pub turns: Option<Turns>,
+    /// What became of the turns, after `tickets`.
+    pub tickets: Option<TicketTurns>,
 }
 
 /// Ends without a report.
 pub fn end_with(status: Status) -> Ended
-    ensures { result ≡ record { status = status; report = None; turns = None } }
+    ensures { result ≡ record { status = status; report = None; turns = None; tickets = None } }
 {
     Ended {
         status,
         report: None,
         turns: None,
+        tickets: None,
     }
 }
 
 /// Writes the line of a status without a report.
 pub fn end_with_line<K: Sink>(out: &mut K, line: &str, status: Status) -> Ended
-    ensures written { IsEndOfWriting K.Sink out.old out.new status None None line.now result }
+    ensures written { IsEndOfWriting K.Sink out.old out.new status None None None line.now result }
     ensures status { (result.status ≡ status) ⊎ (result.status ≡ Status.WriteFault) }
 {
     match write_all(out, line.as_bytes()) {
@@ -38,15 +43,21 @@ pub fn end_with_line<K: Sink>(out: &mut K, line: &str, status: Status) -> Ended
     }
 }
 
-/// Writes the text of an answer.
-pub fn end_with_answer<K: Sink>(out: &mut K, answer: Answer, turns: Option<Turns>) -> Ended
-    ensures { IsEndOfWriting K.Sink out.old out.new answer.status answer.report turns answer.text result }
+/// Writes the text of an answer, and keeps what became of the turns.
+pub fn end_with_answer<K: Sink>(
+    out: &mut K,
+    answer: Answer,
+    turns: Option<Turns>,
+    tickets: Option<TicketTurns>,
+) -> Ended
+    ensures { IsEndOfWriting K.Sink out.old out.new answer.status answer.report turns tickets answer.text result }
 {
     match write_all(out, answer.text.bytes()) {
         Ok(()) => Ended {
             status: answer.status,
             report: answer.report,
             turns,
+            tickets,
         },
         Err(WriteFault) => end_with(Status::WriteFault),
     }

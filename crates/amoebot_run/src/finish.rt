@@ -1,4 +1,4 @@
-//! The last part of `run`: it makes the text of what workers left, and writes it. It waits for nothing.
+//! The last part of `run`: it makes the text of what workers have made, and writes it. It waits for nothing.
 
 ghost use Rattle.claim_core.specs.Good.{Good};
 ghost use Rattle.action_meaning.specs.Verdicts.{verdict_shown};
@@ -6,32 +6,34 @@ ghost use Rattle.command_answers.specs.Answers.{IsCounted, Tells};
 ghost use Rattle.amoebot_run.specs.Parts.{IsEndedRun};
 
 use crate::ended::{Ended, end_with, end_with_answer};
+use crate::making::Made;
 use action_eval::Runner;
 use amoebot_state::NoMemory;
 use claim_core::Lists;
 use command_answers::{Status, Telling, tell};
 use outer_io::Sink;
 use std::alloc::Global;
-use turn_workers::Worked;
 
-/// Tells the report that workers left, and keeps what became of the turns.
+/// Tells the report that workers have made, and keeps what became of the turns.
 pub fn finish<K: Sink>(
     alloc: Global,
     out: &mut K,
     telling: Telling,
     runner: &Runner,
     lists: &Lists,
-    worked: Worked,
+    made: Made,
 ) -> Ended
-    requires good { Good (verdict_shown runner.now) worked.report.journal.first lists.now worked.report }
-    requires few { IsCounted telling worked.report }
-    ensures { IsEndedRun K.Sink out.old out.new
-        (Tells telling runner.now lists.now worked.report) worked.report worked.turns
-        result }
+    requires good { Good (verdict_shown runner.now) made.report.journal.first lists.now made.report }
+    requires few { IsCounted telling made.report }
+    ensures { IsEndedRun K.Sink out.old out.new (Tells telling runner.now lists.now made.report) made result }
 {
-    let Worked { report, turns } = worked;
+    let Made {
+        report,
+        turns,
+        tickets,
+    } = made;
     match tell(alloc, telling, runner, lists, report) {
-        Ok(answer) => end_with_answer(out, answer, Some(turns)),
+        Ok(answer) => end_with_answer(out, answer, turns, tickets),
         Err(NoMemory) => end_with(Status::NoMemory),
     }
 }

@@ -5,6 +5,7 @@ mod begin;
 mod calls;
 mod ended;
 mod finish;
+mod making;
 
 pub use calls::{run, run_text};
 pub use command_answers::Status;

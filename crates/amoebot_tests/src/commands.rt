@@ -67,8 +67,13 @@ pub static SHOWN: [(&str, &str); 3] = [
     ),
 ];
 
+/// The line that is written of words that are no command.
+pub const USAGE: &str =
+    "usage: run / interleave / replay / check / measure / show NAME / sample NUMBER \
+    / renew / rewind NUMBER / rounds / elect / tickets\n";
+
 /// Words that are no command.
-pub static NO_COMMANDS: [&[&str]; 61] = [
+pub static NO_COMMANDS: [&[&str]; 66] = [
     &[],
     &[""],
     &["Run"],
@@ -130,6 +135,11 @@ pub static NO_COMMANDS: [&[&str]; 61] = [
     &["elects"],
     &["elect", "erosion"],
     &["elect", "elect"],
+    &["Tickets"],
+    &["ticket"],
+    &["-tickets"],
+    &["tickets", "now"],
+    &["run", "tickets"],
 ];
 
 /// Steps of two callers by schedules.

@@ -535,7 +535,7 @@ fn check_election<R: Abort + Threads + Wait + Sync>(
     alloc: Global,
     document: &str,
 ) -> Result<(), Fail> {
-    let Replayed { report, whole } = run_and_replay(rt, alloc, document)?;
+    let Replayed { report, whole } = run_and_replay(rt, alloc, "run", document)?;
     let text = election_in(alloc, &report.world)?;
     check(
         rt,

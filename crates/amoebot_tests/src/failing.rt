@@ -79,7 +79,7 @@ fn check_write<R: Abort + Threads + Wait + Sync>(
     assert_eq!(rt; out.bytes(), taken);
     if status == Status::WriteFault {
         assert!(rt; ended.report.is_none());
-        assert!(rt; ended.turns.is_none());
+        assert!(rt; ended.turns.is_none() && ended.tickets.is_none());
     }
     Ok(())
 }
@@ -139,6 +139,15 @@ fn check_each_call<R: Abort + Threads + Wait + Sync>(
 #[test]
 fn each_read_and_each_write_that_fails_gives_its_status(rt: HostRuntime) -> Result<(), Fail> {
     check_each_call(&rt, rt.alloc(), &WORKED)
+}
+
+#[test]
+fn each_failing_call_of_tickets_gives_its_status(rt: HostRuntime) -> Result<(), Fail> {
+    check_each_call(
+        &rt,
+        rt.alloc(),
+        &("tickets", WORKED.1, WORKED.2, WORKED.3, WORKED.4),
+    )
 }
 
 #[test]

@@ -1,12 +1,42 @@
-//! The gate that is given to `run` for a sample.
-use crate::tests::words;
+//! Gates that are given to `run`: each turn of a document comes to them, and for a sample too.
+use crate::meetings::TWO_APART;
+use crate::pieces::ON_THREADS;
+use crate::reports::right_report;
+use crate::tests::{joined, words};
 use activation::Gate;
 use amoebot_run::{Ended, Status, run};
 use claim_core::Mark;
 use outer_io::{SureSink, SureSource};
+use std::alloc::Global;
+use std::process::Abort;
+use std::sync::Wait;
 use std::sync::atomic::{AtomicBool, AtomicU64, Ordering};
 use std::test::Fail;
 use std::thread;
+use std::thread::Threads;
+use turn_workers::MeetGate;
+
+/// Each turn waits in the gate, once it has claimed its zone, until both callers have come to that turn.
+/// One after another they would not meet.
+fn two_meet<R: Abort + Threads + Wait + Sync>(
+    rt: &R,
+    alloc: Global,
+    word: &str,
+) -> Result<(), Fail> {
+    let document = joined(alloc, TWO_APART)?;
+    let gate = MeetGate::new(2, 50_000_000);
+    let report = right_report(rt, alloc, word, document.as_str(), &gate)?;
+    assert!(rt; gate.met() && report.journal.entries().len() == 2);
+    Ok(())
+}
+
+#[test]
+fn two_callers_meet_in_each_turn(rt: HostRuntime) -> Result<(), Fail> {
+    for word in ON_THREADS {
+        two_meet(&rt, rt.alloc(), word)?;
+    }
+    Ok(())
+}
 
 /// Counts its calls. The first call for caller 0 and the first one for caller 1 wait for each other, for many looks at most.
 #[derive(Drop)]
@@ -72,6 +102,7 @@ fn workers_of_a_sample_meet_and_come_to_the_gate(rt: HostRuntime) -> Result<(), 
         status,
         report,
         turns: _,
+        tickets: _,
     } = run(
         &rt,
         rt.alloc(),

@@ -14,6 +14,10 @@ mod fronts;
 #[cfg(test)]
 mod gates;
 #[cfg(test)]
+mod generated;
+#[cfg(test)]
+mod holding;
+#[cfg(test)]
 mod meetings;
 #[cfg(test)]
 mod old_values;
@@ -37,5 +41,7 @@ mod runs;
 mod tampered;
 #[cfg(test)]
 mod tests;
+#[cfg(test)]
+mod tickets;
 #[cfg(test)]
 mod walls;

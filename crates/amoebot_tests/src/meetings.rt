@@ -1,6 +1,6 @@
 //! Documents whose callers meet, and one whose callers never do.
 
-use crate::pieces::{FAR, MARK, OUT};
+use crate::pieces::{FAR, MARK, OUT, OUT_AND_BACK};
 
 /// An amoebot that marks itself, in the list of each of sixteen callers.
 pub const ONE_FOR_SIXTEEN: &[&str] = &[
@@ -43,6 +43,26 @@ pub const MEETINGS: [&[&str]; 4] = [
 
 /// Two amoebots far from each other, each in the list of one caller.
 pub const TWO_APART: &[&str] = &[OUT, FAR, "lists\nturns 3\nlist 0\nlist 1\nend\n"];
+
+/// Four amoebots that are eight columns apart. In each turn each of them goes out or comes back.
+pub const FOUR_APART: &[&str] = &[
+    OUT_AND_BACK,
+    "shape\narea 0 0 32 8\n",
+    "bot 3 3 3 3 0 +\nbot 11 3 11 3 0 +\nbot 19 3 19 3 0 +\nbot 27 3 27 3 0 +\n",
+    "end\nlists\nturns 64\nlist 0\nlist 1\nlist 2\nlist 3\nend\n",
+];
+
+/// Sixteen amoebots that are eight columns or rows apart. In each turn each of them goes out or comes back.
+pub const SIXTEEN_APART: &[&str] = &[
+    OUT_AND_BACK,
+    "shape\narea 0 0 40 40\n",
+    "bot 4 4 4 4 0 +\nbot 12 4 12 4 0 +\nbot 20 4 20 4 0 +\nbot 28 4 28 4 0 +\n",
+    "bot 4 12 4 12 0 +\nbot 12 12 12 12 0 +\nbot 20 12 20 12 0 +\nbot 28 12 28 12 0 +\n",
+    "bot 4 20 4 20 0 +\nbot 12 20 12 20 0 +\nbot 20 20 20 20 0 +\nbot 28 20 28 20 0 +\n",
+    "bot 4 28 4 28 0 +\nbot 12 28 12 28 0 +\nbot 20 28 20 28 0 +\nbot 28 28 28 28 0 +\n",
+    "end\nlists\nturns 16\nlist 0\nlist 1\nlist 2\nlist 3\nlist 4\nlist 5\nlist 6\nlist 7\n",
+    "list 8\nlist 9\nlist 10\nlist 11\nlist 12\nlist 13\nlist 14\nlist 15\nend\n",
+];
 
 /// Sixteen amoebots in a square of four by four that mark themselves, in this order in the list of each of sixteen callers.
 pub const SIXTEEN_FOR_SIXTEEN: &[&str] = &[

@@ -19,7 +19,7 @@ use text_tokens::RefusalKind::{BadEntry, BadPlace, BadRange, Unexpected};
 
 /// A document that has one text in each version, apart from its journal: the word of its command, its pieces in version 1,
 /// how many entries there are, the journal of versions 1 and 2, that of version 3, and the rest of the text.
-type Run = (
+pub type Run = (
     &'static str,
     &'static [&'static str],
     usize,
@@ -52,7 +52,7 @@ const TWICE_NOTHING: &str = "journal\nentry 0 0 0 0 0 none\nentry 1 0 1 0 0 none
 
 const TWICE_DONE: &str = "turns\nturn 0 0 done 0\nturn 0 1 done 1\nend\n";
 
-static RUNS: [Run; 12] = [
+pub static RUNS: [Run; 12] = [
     // An amoebot expands.
     (
         "run",
@@ -640,18 +640,7 @@ fn check_in<R: Abort + Threads + Wait + Sync>(
     version: &str,
     run: &Run,
 ) -> Result<(), AllocError> {
-    let document = in_version(alloc, version, run.1)?;
-    let text = text_in(alloc, version, run)?;
-    let word = run.0;
-    check(
-        rt,
-        alloc,
-        &[word],
-        document.as_bytes(),
-        Done,
-        Some(run.2),
-        text.as_str(),
-    )?;
+    check_by(rt, alloc, run.0, version, run)?;
     let whole = replayed_in(alloc, version, run)?;
     let agrees = format!(in alloc; "agrees {}\n", run.2)?;
     check(
@@ -662,6 +651,27 @@ fn check_in<R: Abort + Threads + Wait + Sync>(
         Done,
         None,
         agrees.as_str(),
+    )
+}
+
+/// In a version the document leaves its text by a word.
+pub(crate) fn check_by<R: Abort + Threads + Wait + Sync>(
+    rt: &R,
+    alloc: Global,
+    word: &str,
+    version: &str,
+    run: &Run,
+) -> Result<(), AllocError> {
+    let document = in_version(alloc, version, run.1)?;
+    let text = text_in(alloc, version, run)?;
+    check(
+        rt,
+        alloc,
+        &[word],
+        document.as_bytes(),
+        Done,
+        Some(run.2),
+        text.as_str(),
     )
 }
 

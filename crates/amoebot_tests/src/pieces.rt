@@ -24,10 +24,17 @@ pub type Fault = (
     &'static str,
 );
 
+/// The words that make the turns of each list by a worker of its own.
+pub const ON_THREADS: [&str; 2] = ["run", "tickets"];
+
 // ---- programs
 
 /// A contracted amoebot expands. Four lines.
 pub const OUT: &str = "amoebot 1\nprogram\naction out when contracted move expand head 0\nend\n";
+
+/// It goes out and comes back, so each turn is done where nobody is in its way.
+pub const OUT_AND_BACK: &str = "amoebot 1\nprogram\n\
+    action out when contracted move expand head 0\naction back when expanded move contract head\nend\n";
 
 /// An amoebot marks itself.
 pub const MARK: &str = "amoebot 1\nprogram\nvar m 1\naction mark when m = 0 do m := 1\nend\n";

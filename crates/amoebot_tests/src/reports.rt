@@ -1,20 +1,23 @@
-//! Reports of `run` on threads, by programs from their texts.
+//! Reports of `run` and of `tickets` on threads, by programs from their texts.
 //! Each is judged by a plain checker that knows the model and nothing of claims.
 //! Its text, behind the document, agrees under `replay`.
 
-use crate::meetings::{MEETINGS, ONE_FOR_SIXTEEN, SIXTEEN_FOR_SIXTEEN};
+use crate::meetings::{MEETINGS, ONE_FOR_SIXTEEN, SIXTEEN_APART, SIXTEEN_FOR_SIXTEEN};
+use crate::pieces::ON_THREADS;
 use crate::tests::{check, joined, words};
 use action_eval::Runner;
-use amoebot_run::{Ended, Status, run_text};
+use activation::{Gate, NoGate};
+use amoebot_run::{Status, run, run_text};
 use claim_core::Report;
 use claim_tests::is_report;
-use outer_io::SureSink;
+use outer_io::{SureSink, SureSource};
 use shape_files::{Form, read_sections};
 use shipped_programs::HEXAGON;
 use std::alloc::{AllocError, Global};
 use std::process::Abort;
 use std::sync::Wait;
 use std::test::Fail;
+use std::thread;
 use std::thread::Threads;
 
 /// What a run leaves: its report, and the document with the text behind it.
@@ -24,36 +27,71 @@ pub(crate) struct Replayed {
     pub(crate) whole: Vec<u8>,
 }
 
-/// Runs the document, whose last byte is LF, and compares what `replay` says of it with the text behind it.
-pub(crate) fn run_and_replay<R: Abort + Threads + Wait + Sync>(
+/// Runs the document by a word, with this gate. Turns come with `run` alone, and tickets with `tickets` alone.
+fn report_by<R: Abort + Threads + Wait + Sync, G: Gate>(
     rt: &R,
     alloc: Global,
+    word: &str,
     document: &str,
+    gate: &G,
+    out: &mut SureSink,
+) -> Result<Report, Fail> {
+    let words = words(alloc, &[word])?;
+    let mut input = SureSource::new(alloc, document.as_bytes())?;
+    let ended = run(rt, alloc, words.as_slice(), &mut input, out, gate);
+    assert_eq!(rt; ended.status, Status::Done);
+    assert_eq!(rt; ended.turns.is_some(), word == "run");
+    assert_eq!(rt; ended.tickets.is_some(), word == "tickets");
+    Ok(ended.report.ok_or("a report")?)
+}
+
+/// The same, with the text behind the document.
+fn run_by<R: Abort + Threads + Wait + Sync, G: Gate>(
+    rt: &R,
+    alloc: Global,
+    word: &str,
+    document: &str,
+    gate: &G,
 ) -> Result<Replayed, Fail> {
     let mut out = SureSink::new(alloc, 4_000_000)?;
-    let words = words(alloc, &["run"])?;
-    let Ended {
-        status,
-        report,
-        turns,
-    } = run_text(rt, alloc, words.as_slice(), document.as_bytes(), &mut out);
-    assert_eq!(rt; status, Status::Done);
-    assert!(rt; turns.is_some());
-    let report = report.ok_or("a report")?;
+    let report = report_by(rt, alloc, word, document, gate, &mut out)?;
     let mut whole: Vec<u8> = Vec::new(alloc);
     whole.extend_from_slice(document.as_bytes())?;
     whole.extend_from_slice(out.bytes())?;
-    let agrees = format!(in alloc; "agrees {}\n", report.journal.entries().len())?;
+    Ok(Replayed { report, whole })
+}
+
+/// With the text behind it the document agrees under `replay`.
+fn check_replay<R: Abort + Threads + Wait + Sync>(
+    rt: &R,
+    alloc: Global,
+    replayed: &Replayed,
+) -> Result<(), Fail> {
+    let entries = replayed.report.journal.entries().len();
+    let agrees = format!(in alloc; "agrees {entries}\n")?;
+    let whole = replayed.whole.as_slice();
     check(
         rt,
         alloc,
         &["replay"],
-        whole.as_slice(),
+        whole,
         Status::Done,
         None,
         agrees.as_str(),
     )?;
-    Ok(Replayed { report, whole })
+    Ok(())
+}
+
+/// Runs the document, whose last byte is LF, by a word, and compares what `replay` says of it with the text behind it.
+pub(crate) fn run_and_replay<R: Abort + Threads + Wait + Sync>(
+    rt: &R,
+    alloc: Global,
+    word: &str,
+    document: &str,
+) -> Result<Replayed, Fail> {
+    let replayed = run_by(rt, alloc, word, document, &NoGate)?;
+    check_replay(rt, alloc, &replayed)?;
+    Ok(replayed)
 }
 
 /// Whether the report is one of the document's run, by the checker.
@@ -71,36 +109,96 @@ fn is_report_of(alloc: Global, document: &str, report: &Report) -> Result<bool, 
     is_report(alloc, &runner, &world, &lists, report)
 }
 
-/// Eighty runs, of two, four and sixteen lists.
-#[test]
-fn reports_where_zones_meet_pass_the_checker_and_agree(rt: HostRuntime) -> Result<(), Fail> {
-    for pieces in MEETINGS {
-        let document = joined(rt.alloc(), pieces)?;
+/// Runs the document by a word, with this gate. The report passes the checker, and the text behind the document agrees.
+pub(crate) fn right_report<R: Abort + Threads + Wait + Sync, G: Gate>(
+    rt: &R,
+    alloc: Global,
+    word: &str,
+    document: &str,
+    gate: &G,
+) -> Result<Report, Fail> {
+    let replayed = run_by(rt, alloc, word, document, gate)?;
+    check_replay(rt, alloc, &replayed)?;
+    let Replayed { report, whole: _ } = replayed;
+    let passes = is_report_of(alloc, document, &report)?;
+    assert!(rt; passes, "{word} of {document}");
+    Ok(report)
+}
+
+/// A gate that lets other threads go first, so that zones are held for a while.
+struct Yielding;
+
+impl Gate for Yielding {
+    fn claimed(&self, _caller: u8, _turn: u32) {
         for _time in 0..20 {
-            let replayed = run_and_replay(&rt, rt.alloc(), document.as_str())?;
-            let passes = is_report_of(rt.alloc(), document.as_str(), &replayed.report)?;
-            assert!(rt; passes);
+            thread::yield_now();
+        }
+    }
+}
+
+/// The document leaves a right report by each word. Every fourth time the gate lets other threads go first.
+pub(crate) fn check_reports<R: Abort + Threads + Wait + Sync>(
+    rt: &R,
+    alloc: Global,
+    document: &str,
+    time: u64,
+) -> Result<(), Fail> {
+    for word in ON_THREADS {
+        if time % 4 == 0 {
+            right_report(rt, alloc, word, document, &Yielding)?;
+        } else {
+            right_report(rt, alloc, word, document, &NoGate)?;
         }
     }
     Ok(())
 }
 
+/// Eighty runs by each word, of two, four and sixteen lists.
 #[test]
-fn one_of_sixteen_callers_marks_the_amoebot(rt: HostRuntime) -> Result<(), Fail> {
-    let document = joined(rt.alloc(), ONE_FOR_SIXTEEN)?;
-    let replayed = run_and_replay(&rt, rt.alloc(), document.as_str())?;
-    assert_eq!(rt; replayed.report.journal.entries().len(), 1);
-    assert_eq!(rt; replayed.report.turns.callers(), 16);
+fn reports_where_zones_meet_pass_the_checker_and_agree(rt: HostRuntime) -> Result<(), Fail> {
+    for pieces in MEETINGS {
+        let document = joined(rt.alloc(), pieces)?;
+        for time in 0..20 {
+            check_reports(&rt, rt.alloc(), document.as_str(), time)?;
+        }
+    }
+    Ok(())
+}
+
+/// Documents of sixteen callers, and how many entries there are at least and at most.
+static FOR_SIXTEEN: [(&[&str], usize, usize); 3] = [
+    // One of them marks the amoebot.
+    (ONE_FOR_SIXTEEN, 1, 1),
+    // They mark each amoebot at most once.
+    (SIXTEEN_FOR_SIXTEEN, 0, 16),
+    // Their zones never meet, and each of their turns commits.
+    (SIXTEEN_APART, 256, 256),
+];
+
+/// By this word the sixteen callers leave so many entries.
+fn check_sixteen<R: Abort + Threads + Wait + Sync>(
+    rt: &R,
+    alloc: Global,
+    word: &str,
+) -> Result<(), Fail> {
+    for (pieces, least, most) in &FOR_SIXTEEN {
+        let document = joined(alloc, pieces)?;
+        let report = right_report(rt, alloc, word, document.as_str(), &NoGate)?;
+        let entries = report.journal.entries().len();
+        assert!(rt;
+            *least <= entries && entries <= *most,
+            "{entries} by {word}"
+        );
+        assert_eq!(rt; report.turns.callers(), 16);
+    }
     Ok(())
 }
 
 #[test]
-fn sixteen_callers_mark_each_amoebot_at_most_once(rt: HostRuntime) -> Result<(), Fail> {
-    let document = joined(rt.alloc(), SIXTEEN_FOR_SIXTEEN)?;
-    let replayed = run_and_replay(&rt, rt.alloc(), document.as_str())?;
-    assert!(rt; replayed.report.journal.entries().len() <= 16);
-    let passes = is_report_of(rt.alloc(), document.as_str(), &replayed.report)?;
-    assert!(rt; passes);
+fn sixteen_callers_leave_right_reports(rt: HostRuntime) -> Result<(), Fail> {
+    for word in ON_THREADS {
+        check_sixteen(&rt, rt.alloc(), word)?;
+    }
     Ok(())
 }
 
@@ -126,24 +224,30 @@ fn row_of_100(alloc: Global) -> Result<String, AllocError> {
     Ok(text)
 }
 
+/// By this word the row is as it was in number, and connected.
+fn check_row<R: Abort + Threads + Wait + Sync>(
+    rt: &R,
+    alloc: Global,
+    word: &str,
+    document: &str,
+) -> Result<(), Fail> {
+    let replayed = run_and_replay(rt, alloc, word, document)?;
+    assert_eq!(rt; replayed.report.turns.callers(), 4);
+    let words = words(alloc, &["measure"])?;
+    let mut out = SureSink::new(alloc, 4096)?;
+    let whole = replayed.whole.as_slice();
+    let ended = run_text(rt, alloc, words.as_slice(), whole, &mut out);
+    assert_eq!(rt; ended.status, Status::Done);
+    let text = "bots 100\nconnected yes\n";
+    assert!(rt; out.bytes().starts_with(text.as_bytes()));
+    Ok(())
+}
+
 #[test]
 fn a_guarded_row_of_100_stays_connected(rt: HostRuntime) -> Result<(), Fail> {
     let document = row_of_100(rt.alloc())?;
-    let replayed = run_and_replay(&rt, rt.alloc(), document.as_str())?;
-    assert_eq!(rt; replayed.report.turns.callers(), 4);
-    let words = words(rt.alloc(), &["measure"])?;
-    let mut out = SureSink::new(rt.alloc(), 4096)?;
-    let ended = run_text(
-        &rt,
-        rt.alloc(),
-        words.as_slice(),
-        replayed.whole.as_slice(),
-        &mut out,
-    );
-    assert_eq!(rt; ended.status, Status::Done);
-    assert!(rt;
-        out.bytes()
-            .starts_with("bots 100\nconnected yes\n".as_bytes())
-    );
+    for word in ON_THREADS {
+        check_row(&rt, rt.alloc(), word, document.as_str())?;
+    }
     Ok(())
 }

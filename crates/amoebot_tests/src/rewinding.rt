@@ -1,5 +1,6 @@
 //! Journals that are gone back along: the shape at a place, seen from the last shape, or where there is no step back.
 
+use crate::commands::USAGE;
 use crate::old_values::{DRAGGED_JOURNAL_3, EXPANDED_3};
 use crate::pieces::{DRAGGED_FINAL, NO_ENTRY, ONE, TRAILED_0};
 use crate::renewals::{EXPANDED_FINAL, OUT_RENEWED, RENEWALS};
@@ -499,10 +500,6 @@ static ERODING: [Rewinding; 8] = [
         &[AREA, "bot 3 3 3 3 0 + 1 1\n", THREE_OFF, SIX_OFF, "end\n"],
     ),
 ];
-
-const USAGE: &str =
-    "usage: run / interleave / replay / check / measure / show NAME / sample NUMBER \
-    / renew / rewind NUMBER / rounds / elect\n";
 
 /// `rewind` to each place says what its row says.
 fn check_rewindings<R: Abort + Threads + Wait + Sync>(

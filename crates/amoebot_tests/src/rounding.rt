@@ -448,7 +448,7 @@ fn check_run<R: Abort + Threads + Wait + Sync>(
     alloc: Global,
     document: &str,
 ) -> Result<(), Fail> {
-    let Replayed { report, whole } = run_and_replay(rt, alloc, document)?;
+    let Replayed { report, whole } = run_and_replay(rt, alloc, "run", document)?;
     assert!(rt; !report.journal.entries().is_empty());
     let (rounds, waiting) = table_of(alloc, document, &report)?.rounds();
     let text = format!(in alloc; "rounds {rounds}\nwaiting {waiting}\n")?;

@@ -1,9 +1,8 @@
 ghost use Rattle.std.specs.declared.option.Option.{Option};
 
-use crate::commands::{COMPARED_AND_CHECKED, INTERLEAVINGS, MEASURED, NO_COMMANDS, SHOWN};
+use crate::commands::{COMPARED_AND_CHECKED, INTERLEAVINGS, MEASURED, NO_COMMANDS, SHOWN, USAGE};
 use crate::failing::{is_unread, unread};
 use crate::faults::FAULTS;
-use crate::meetings::TWO_APART;
 use crate::pieces::{Fault, Row};
 use crate::runs::{RUNS, WHOLE_PROGRAMS};
 use activation::NoGate;
@@ -16,7 +15,6 @@ use std::sync::Wait;
 use std::test::Fail;
 use std::thread::Threads;
 use text_tokens::{Refusal, RefusalKind};
-use turn_workers::MeetGate;
 
 /// The worked example on one line.
 const ON_ONE_LINE: &str =
@@ -131,7 +129,7 @@ fn check_line<R: Abort + Threads + Wait + Sync, S: Source>(
     let ended = call(rt, alloc, texts, input, &mut out)?;
     assert_eq!(rt; ended.status, status);
     assert!(rt; ended.report.is_none());
-    assert!(rt; ended.turns.is_none());
+    assert!(rt; ended.turns.is_none() && ended.tickets.is_none());
     assert_eq!(rt; out.bytes(), line.as_bytes());
     assert!(rt; out.whole());
     Ok(())
@@ -182,7 +180,7 @@ fn looks_at_no_document_above_the_limit(rt: HostRuntime) -> Result<(), Fail> {
         (0, RefusalKind::TooLong, "refused 0 TooLong\n"),
     ] {
         let status = Status::Refused(Refusal { line, kind });
-        for word in ["run", "interleave", "check"] {
+        for word in ["run", "tickets", "interleave", "check"] {
             check(
                 &rt,
                 rt.alloc(),
@@ -266,11 +264,9 @@ impl Sink for FailingSink {
 
 #[test]
 fn judges_the_words_before_it_reads(rt: HostRuntime) -> Result<(), Fail> {
-    let usage =
-        "usage: run / interleave / replay / check / measure / show NAME / sample NUMBER / renew / rewind NUMBER / rounds / elect\n";
     for texts in &NO_COMMANDS {
         let mut input = unread(rt.alloc())?;
-        check_line(&rt, rt.alloc(), texts, &mut input, Status::Words, usage)?;
+        check_line(&rt, rt.alloc(), texts, &mut input, Status::Words, USAGE)?;
         assert!(rt; is_unread(&mut input));
     }
     Ok(())
@@ -302,6 +298,7 @@ fn a_sample_is_told_in_six_lines_and_nothing_is_read(rt: HostRuntime) -> Result<
             status,
             report,
             turns,
+            tickets,
         } = call(&rt, rt.alloc(), &["sample", number], &mut input, &mut out)?;
         assert_eq!(rt; status, Status::Done);
         let lines = joined(
@@ -313,7 +310,7 @@ fn a_sample_is_told_in_six_lines_and_nothing_is_read(rt: HostRuntime) -> Result<
         )?;
         assert_eq!(rt; out.bytes(), lines.as_bytes());
         assert!(rt; is_unread(&mut input));
-        assert!(rt; turns.is_some());
+        assert!(rt; turns.is_some() && tickets.is_none());
         let report = report.ok_or("a report")?;
         assert_eq!(rt; report.world.bots(), 150);
         assert_eq!(rt; report.turns.callers(), 4);
@@ -322,28 +319,6 @@ fn a_sample_is_told_in_six_lines_and_nothing_is_read(rt: HostRuntime) -> Result<
         }
         assert!(rt; !report.journal.entries().is_empty());
     }
-    Ok(())
-}
-
-/// Each turn waits in the gate, once it has claimed its zone, until both callers have come to that turn.
-/// One after another they would not meet.
-#[test]
-fn two_callers_meet_in_each_turn(rt: HostRuntime) -> Result<(), Fail> {
-    let document = joined(rt.alloc(), TWO_APART)?;
-    let words = words(rt.alloc(), &["run"])?;
-    let mut input = SureSource::new(rt.alloc(), document.as_bytes())?;
-    let mut out = SureSink::new(rt.alloc(), 4096)?;
-    let gate = MeetGate::new(2, 50_000_000);
-    let ended = run(
-        &rt,
-        rt.alloc(),
-        words.as_slice(),
-        &mut input,
-        &mut out,
-        &gate,
-    );
-    assert_eq!(rt; ended.status, Status::Done);
-    assert!(rt; gate.met());
     Ok(())
 }
 

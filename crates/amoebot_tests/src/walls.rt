@@ -226,7 +226,7 @@ static TURNS: [Turn; 18] = [
 ];
 
 /// Walls under each command that reads a document.
-static COMMANDS: [Row; 11] = [
+pub static COMMANDS: [Row; 11] = [
     // Walls are written in any order, and printed by rising number.
     (
         "run",
@@ -402,7 +402,7 @@ static COMMANDS: [Row; 11] = [
 ];
 
 /// Walls that may not stand where they do, and words of version 2 in version 1.
-static REFUSED: [Fault; 6] = [
+pub static REFUSED: [Fault; 6] = [
     (
         "run",
         &[

@@ -4,7 +4,7 @@ use Rattle.shape_files.specs.Documents.{Contents, HasContents}
 use Rattle.shape_files.specs.Frame.{least_version}
 use Rattle.shape_files.specs.LeastVersions.{LaterIsDocument}
 use Rattle.command_words.specs.declared.command.DocumentCommand.{DocumentCommand}
-use Rattle.command_words.specs.declared.command.DocumentCommand.TheVariants.{Run, Interleave, Replay, Check, Measure, Renew, Rewind, Rounds, Elect}
+use Rattle.command_words.specs.declared.command.DocumentCommand.TheVariants.{Run, Interleave, Replay, Check, Measure, Renew, Rewind, Rounds, Elect, Tickets}
 use Rattle.command_answers.specs.Commands.{form_of, least_for, IsDocumentOf}
 
 pub least_is : (c : DocumentCommand) → least_version ≤ least_for c
@@ -17,6 +17,7 @@ least_is Renew = omega arith
 least_is (Rewind place) = omega arith
 least_is Rounds = omega arith
 least_is Elect = omega arith
+least_is Tickets = omega arith
 
 module _ (later : LaterIsDocument) (c : DocumentCommand) (bytes : List ℕ) (a : Contents) (h : IsDocumentOf c bytes a) where
   pub of_form : HasContents (form_of c) bytes a

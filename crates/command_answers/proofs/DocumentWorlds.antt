@@ -1,5 +1,5 @@
 -- The program and the shape of a document may run.
-use Rattle.std.proofs.Common.{◌≡◌, ◌≤◌, false, List, [], Option, Some, subst}
+use Rattle.std.proofs.Common.{◌≡◌, ◌≤◌, false, [], Option, Some, subst}
 use Rattle.std.specs.Option.{IfSome}
 use Rattle.amoebot_state.specs.Configs.{Config}
 use Rattle.amoebot_state.specs.Limits.{most_vars}

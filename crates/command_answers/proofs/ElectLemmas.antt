@@ -27,7 +27,6 @@ use Rattle.command_answers.specs.declared.answer.Answer.{Answer}
 use Rattle.command_answers.specs.declared.status.Status.{Status}
 use Rattle.command_answers.specs.declared.status.Status.TheVariants as status
 use Rattle.command_answers.specs.Answers.{IsAnswerTo, differs_with, elected_with, refused_with}
-use Rattle.command_answers.specs.Commands.{IsDocumentOf}
 use Rattle.command_answers.specs.ElectLaws.{ElectEndsAsReplay, ElectionsAreWon, IsWonElection}
 use Rattle.command_answers.specs.Lines.{bad_start, not_erosion, refusal_line}
 use Rattle.command_answers.specs.Outcomes.{DocumentRecord, IsOutcome, JournalAgrees, JournalDiffers, in_full, in_plain, agreeing, differing, no_erosion, not_ready, not_elected, elected}

@@ -17,6 +17,7 @@ use Rattle.claim_core.specs.Machine.{Setup, after, setup}
 use Rattle.claim_core.specs.Soundness.{IsSetup}
 use Rattle.claim_core.specs.Reached.{HaveEnded, IsReportOf, Reached}
 use Rattle.claim_core.specs.Laws.{ReachedIsGood, OneListIsSerial}
+use Rattle.claim_core.specs.Tickets.{TicketReached, ticket_after}
 use Rattle.action_meaning.specs.Verdicts.{verdict_shown}
 use Rattle.action_meaning.proofs.Decided.{programs_decide_by_acts}
 use Rattle.shape_files.specs.declared.section_kind.Form.TheVariants as form
@@ -30,12 +31,11 @@ use Rattle.command_runs.specs.Examples.{nobody, one_alone}
 use Rattle.command_runs.proofs.Measures.{nobody_is_measured}
 use Rattle.small_worlds.proofs.Rows.{is_area, one_id, IsThereIn, one_has_ended, two_have_ended}
 use Rattle.shipped_programs.specs.declared.shipped.Shipped.TheVariants.{Line}
-use Rattle.command_words.specs.declared.command.DocumentCommand.TheVariants.{Run, Interleave, Replay, Check, Measure, Renew}
+use Rattle.command_words.specs.declared.command.DocumentCommand.TheVariants.{Run, Interleave, Replay, Check, Measure, Renew, Tickets}
 use Rattle.command_words.specs.declared.command.Command.TheVariants.{Document}
-use Rattle.command_answers.specs.declared.answer.Telling.TheVariants as telling
 use Rattle.command_answers.specs.declared.status.Status.TheVariants as status
 use Rattle.command_answers.specs.Reads.{whole}
-use Rattle.command_answers.specs.Outcomes.{DocumentLists, DocumentRecord, JournalAgrees, JournalDiffers, in_plain, of_run, of_interleave, agreeing, differing, of_check, of_measure, renewing, renew_differing}
+use Rattle.command_answers.specs.Outcomes.{DocumentLists, DocumentRecord, JournalAgrees, JournalDiffers, in_plain, of_run, of_tickets, of_interleave, agreeing, differing, of_check, of_measure, renewing, renew_differing}
 use Rattle.command_answers.specs.Owed.{IsOwed, usage, read_fault, longer, refused, served, shown}
 use Rattle.command_answers.specs.Answers.{of_document}
 use Rattle.command_words.specs.Words.{is_number_word, of_two_words, number_of}
@@ -74,6 +74,14 @@ left = record { first = refl; entries = refl; world = record { same = record { r
 reached : Reached g expansion_report
 reached = record { steps = reverse schedule; ended = ended; left = left }
 
+-- where commits draw their places, the same steps give it
+drawn : TicketReached g expansion_report
+drawn = record {
+  steps = reverse schedule;
+  ended = one_has_ended (ticket_after g (reverse schedule)) _ refl refl;
+  left = record { first = refl; entries = refl; world = record { same = record { rest = refl; size = refl; ids = same_ids }; values = refl }; marks = refl };
+}
+
 -- two lists of one turn each, whose callers make their steps one after the other
 abbrev both : Setup
 both = setup (verdict_shown out) one_alone two_lists
@@ -96,6 +104,13 @@ both_ended = two_have_ended (after both steps_of_both) _ _ refl refl refl
 
 both_reached : Reached both two_callers_report
 both_reached = record { steps = steps_of_both; ended = both_ended; left = record { first = refl; entries = refl; world = record { same = record { rest = refl; size = refl; ids = same_ids }; values = refl }; marks = refl } }
+
+both_drawn : TicketReached both two_callers_report
+both_drawn = record {
+  steps = steps_of_both;
+  ended = two_have_ended (ticket_after both steps_of_both) _ _ refl refl refl;
+  left = record { first = refl; entries = refl; world = record { same = record { rest = refl; size = refl; ids = same_ids }; values = refl }; marks = refl };
+}
 
 scheduled : IsScheduled g schedule expansion_report
 scheduled = record { count = 0; ended = ended; first = λ n lt. absurd (omega arith); left = left }
@@ -140,6 +155,10 @@ module _ (goods : ReachedIsGood) (serials : OneListIsSerial) where
   owes_report report its_good its_reached = served Run with_list and_list status.Done (Some report) (report_text 1 0 report) (says form.Run with_list (Ok and_list) are_answered.list)
       (of_run its_lists report its_good its_reached (λ few. serials (verdict_shown out) one_alone one_list report few its_good))
 
+  owes_tickets : (report : Report) → Good (verdict_shown out) one_alone one_list report → TicketReached g report → IsOwed (Some (Document Tickets)) (whole with_list) status.Done (Some report) (report_text 1 0 report)
+  owes_tickets report its_good its_reached = served Tickets with_list and_list status.Done (Some report) (report_text 1 0 report) (says form.Run with_list (Ok and_list) are_answered.list)
+      (of_tickets its_lists report its_good its_reached (λ few. serials (verdict_shown out) one_alone one_list report few its_good))
+
   pub small_answers : SmallAnswers
   unfolding digits name of_two_words number_of is_number_word
   small_answers = record {
@@ -152,6 +171,8 @@ module _ (goods : ReachedIsGood) (serials : OneListIsSerial) where
     empty = refused Interleave [] empty_refused (says form.Interleave [] (Err empty_refused) are_answered.empty);
     run = owes_report expansion_report (good goods) reached;
     two_lists = served Run with_two_lists and_two_lists status.Done (Some two_callers_report) both_text (says form.Run with_two_lists (Ok and_two_lists) are_answered.two_lists) (of_run its_two_lists two_callers_report (both_good goods) both_reached (λ few. absurd (omega arith)));
+    tickets = owes_tickets expansion_report (good goods) drawn;
+    two_with_tickets = served Tickets with_two_lists and_two_lists status.Done (Some two_callers_report) both_text (says form.Run with_two_lists (Ok and_two_lists) are_answered.two_lists) (of_tickets its_two_lists two_callers_report (both_good goods) both_drawn (λ few. absurd (omega arith)));
     interleave = served Interleave with_schedule and_schedule status.Done (Some expansion_report) expansion_report_text (says form.Interleave with_schedule (Ok and_schedule) are_answered.schedule) (of_interleave its_schedule schedule expansion_report refl (good goods) reached scheduled);
     agrees = served Replay (with_shape ++ expansion_journal ++ spread_text) (and_journal spread_config) status.Done None (codes "agrees 1\n") (says form.Replay (with_shape ++ expansion_journal ++ spread_text) (Ok (and_journal spread_config)) are_answered.journal) (agreeing (its_record spread_config) (expansion ∷ []) (its_journal_agrees goods));
     differs = served Replay (with_shape ++ expansion_journal ++ still_text) (and_journal one_alone) (status.Differs 1) None (codes "differs 1\n") (says form.Replay (with_shape ++ expansion_journal ++ still_text) (Ok (and_journal one_alone)) are_answered.other_final) (differing (its_record one_alone) 1 (its_journal_differs goods));
@@ -162,10 +183,17 @@ module _ (goods : ReachedIsGood) (serials : OneListIsSerial) where
     measure = served Measure with_nobody and_nobody status.Done None _ (says form.Measure with_nobody (Ok and_nobody) are_answered.nobody) (of_measure nobody _ refl nobody_is_measured);
     refused_task = (refused Interleave [] empty_refused (says form.Interleave [] (Err empty_refused) are_answered.empty), λ worked. absurd worked);
     run_task = record {
-      by_workers = tt;
-      its_lists = of_document Run with_list and_list (says form.Run with_list (Ok and_list) are_answered.list) refl refl refl refl;
+      its_maker = refl;
+      its_lists = of_document Run with_list and_list (says form.Run with_list (Ok and_list) are_answered.list) refl refl refl refl refl;
       there = may_run.bots;
       few = λ report its_good. tt;
       owed = λ report text its_good its_reached tells. subst (λ (t : List ℕ). IsOwed (Some (Document Run)) (whole with_list) status.Done (Some report) t) (sym tells) (owes_report report its_good its_reached);
+    };
+    tickets_task = record {
+      its_maker = refl;
+      its_lists = of_document Tickets with_list and_list (says form.Run with_list (Ok and_list) are_answered.list) refl refl refl refl refl;
+      there = may_run.bots;
+      few = λ report its_good. tt;
+      owed = λ report text its_good its_reached tells. subst (λ (t : List ℕ). IsOwed (Some (Document Tickets)) (whole with_list) status.Done (Some report) t) (sym tells) (owes_tickets report its_good its_reached);
     };
   }

@@ -1,9 +1,7 @@
 -- The answers of the samples of `rewind`, `rounds` and `elect`.
-use Rattle.std.proofs.Common.{◌≡◌, ◌<◌, ◌≤◌, ℕ, List, [], ◌∷◌, ◌++◌, length, Some, None, inr, Ok, Err, refl, ap, arith, codes}
+use Rattle.std.proofs.Common.{◌≡◌, ◌<◌, ◌≤◌, ℕ, List, [], ◌∷◌, ◌++◌, length, None, inr, Ok, Err, refl, ap, arith}
 use Rattle.std.specs.Fmt.{digits}
 use Rattle.text_tokens.specs.Kinds.{name}
-use Rattle.amoebot_state.specs.Configs.{Config}
-use Rattle.amoebot_state.specs.Steps.{Run}
 use Rattle.claim_core.specs.Laws.{ReachedIsGood}
 use Rattle.rewind_log.specs.Rewinds.{IsBack}
 use Rattle.rewind_log.specs.Unwinding.{HasSameFrame, at_place}

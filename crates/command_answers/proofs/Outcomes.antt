@@ -4,6 +4,8 @@ use Rattle.std.specs.Prelude.{IsSome}
 use Rattle.std.proofs.lemmas.Bool.{false≢true}
 use Rattle.claim_core.specs.declared.report.Report.{Report}
 use Rattle.claim_core.specs.Laws.{OneListIsSerial}
+use Rattle.claim_core.specs.Machine.{setup}
+use Rattle.claim_core.specs.TicketLaws.{TicketReachedIsReached}
 use Rattle.action_meaning.specs.Verdicts.{verdict_shown}
 use Rattle.shape_files.specs.Documents.{Contents}
 use Rattle.shape_files.specs.LeastVersions.{DecidedFromEach}
@@ -13,8 +15,8 @@ use Rattle.command_words.specs.declared.command.Command.TheVariants.{Document}
 use Rattle.command_words.specs.declared.command.DocumentCommand.{DocumentCommand}
 use Rattle.command_answers.specs.declared.status.Status.{Status}
 use Rattle.command_answers.specs.declared.status.Status.TheVariants as status
-use Rattle.command_answers.specs.Commands.{IsDocumentOf, IsWorked, MakesTurns}
-use Rattle.command_answers.specs.Outcomes.{IsOutcome, of_run, of_interleave, agreeing, differing, of_check, of_measure, renewing, renew_differing, no_place, unwound, not_unwound, rounded, not_rounded, no_erosion, not_ready, not_elected, elected}
+use Rattle.command_answers.specs.Commands.{IsDocumentOf, MakesTurns, NeedsWorkers}
+use Rattle.command_answers.specs.Outcomes.{IsOutcome, of_run, of_tickets, of_interleave, agreeing, differing, of_check, of_measure, renewing, renew_differing, no_place, unwound, not_unwound, rounded, not_rounded, no_erosion, not_ready, not_elected, elected}
 use Rattle.command_answers.specs.Owed.{usage, read_fault, longer, refused, served, shown, sampled}
 use Rattle.command_answers.specs.Headline.{IsRunOfDocument}
 use Rattle.command_answers.specs.Laws.{DocumentsHaveOutcomes, ReportsAreOfTurns, ReportsAreOfDocuments, ReportsAreOfSamples}
@@ -26,8 +28,9 @@ documents_have_outcomes documents c bytes a s report text h (refused d same r x)
 documents_have_outcomes documents c bytes a s report text h (served d same b t told v x is) = subst (λ (k : Contents). IsOutcome k c s report text) (same_contents documents c bytes b a x h) is
 
 -- a command whose turns workers make has no other outcome than that it is done
-pub worked_is_done : (a : Contents) (c : DocumentCommand) (s : Status) (report : Option Report) (text : List ℕ) → IsWorked (Some (Document c)) → IsOutcome a c s report text → s ≡ status.Done
+pub worked_is_done : (a : Contents) (c : DocumentCommand) (s : Status) (report : Option Report) (text : List ℕ) → NeedsWorkers (Some (Document c)) → IsOutcome a c s report text → s ≡ status.Done
 worked_is_done a c s report text worked (of_run d r good reached serial) = refl
+worked_is_done a c s report text worked (of_tickets d r good reached serial) = refl
 worked_is_done a c s report text worked (of_interleave d schedule r its_schedule good reached scheduled) = refl
 worked_is_done a c s report text worked (agreeing d es agrees) = refl
 worked_is_done a c s report text worked (differing d place differs) = absurd worked
@@ -49,6 +52,7 @@ worked_is_done a c s report text worked (elected d es is ready agrees) = refl
 
 outcomes_are_of_turns : (a : Contents) (c : DocumentCommand) (s : Status) (report : Option Report) (text : List ℕ) → IsOutcome a c s report text → IsSome report ↔ ((s ≡ status.Done) × MakesTurns (Some (Document c)))
 outcomes_are_of_turns a c s report text (of_run d r good reached serial) = (λ some. (refl, tt), λ both. refl)
+outcomes_are_of_turns a c s report text (of_tickets d r good reached serial) = (λ some. (refl, tt), λ both. refl)
 outcomes_are_of_turns a c s report text (of_interleave d schedule r its_schedule good reached scheduled) = (λ some. (refl, tt), λ both. refl)
 outcomes_are_of_turns a c s report text (agreeing d es agrees) = (λ some. absurd (false≢true some), λ (is, makes). absurd makes)
 outcomes_are_of_turns a c s report text (differing d place differs) = (λ some. absurd (false≢true some), λ (is, makes). absurd makes)
@@ -75,7 +79,7 @@ reports_are_of_turns c read s report text (served d bytes a t told v x is) = out
 reports_are_of_turns c read s report text (shown p) = (λ some. absurd (false≢true some), λ (is, makes). absurd makes)
 reports_are_of_turns c read s report text (sampled seed told v x) = (λ some. (refl, tt), λ both. refl)
 
-module _ (stays : GoodStaysConnected) (serials : OneListIsSerial) where
+module _ (stays : GoodStaysConnected) (serials : OneListIsSerial) (claimed : TicketReachedIsReached) where
   told_by_outcome : (c : DocumentCommand) (bytes : List ℕ) (a : Contents) (s : Status) (report : Report) (text : List ℕ) → IsDocumentOf c bytes a → IsOutcome a c s (Some report) text → IsRunOfDocument c bytes report text
   told_by_outcome c bytes a s report text h (of_run d r good reached serial) = record {
     contents = a;
@@ -88,6 +92,21 @@ module _ (stays : GoodStaysConnected) (serials : OneListIsSerial) where
     its_lists = d.its_lists;
     good = good;
     reached = reached;
+    serial = serial;
+    connected = stays d.program d.start d.lists report good;
+    writes = refl;
+  }
+  told_by_outcome c bytes a s report text h (of_tickets d r good reached serial) = record {
+    contents = a;
+    program = d.program;
+    start = d.start;
+    lists = d.lists;
+    document = h;
+    its_program = d.its_program;
+    its_shape = d.its_shape;
+    its_lists = d.its_lists;
+    good = good;
+    reached = claimed (setup (verdict_shown d.program) d.start d.lists) report reached;
     serial = serial;
     connected = stays d.program d.start d.lists report good;
     writes = refl;

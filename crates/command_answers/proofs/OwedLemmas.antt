@@ -1,5 +1,5 @@
 -- One thing is owed.
-use Rattle.std.proofs.Common.{◌≡◌, ◌<◌, ◌≤◌, ℕ, List, length, map, codes, Option, Some, None, Result, Ok, Err, inl, inr, ap, sym, subst, refl, ◌∙◌, arith}
+use Rattle.std.proofs.Common.{◌≡◌, ◌<◌, ◌≤◌, ℕ, List, length, map, codes, Option, Some, Result, Ok, Err, inl, inr, ap, sym, subst, refl, ◌∙◌, arith}
 use Rattle.std.specs.Prelude.{IfSome}
 use Rattle.std.proofs.lemmas.Bool.{cases_Bool}
 use Rattle.std.proofs.lemmas.Option.{none-some}
@@ -11,6 +11,8 @@ use Rattle.amoebot_state.specs.Steps.{OldValuesAreFound, plain_entry}
 use Rattle.model_ops.specs.Laws.{ActsKeepDeciderLaws}
 use Rattle.serial_model.specs.Laws.{PlainRunIsRun, PlainRunIsUnique}
 use Rattle.claim_core.specs.declared.report.Report.{Report}
+use Rattle.claim_core.specs.Machine.{setup}
+use Rattle.claim_core.specs.TicketLaws.{TicketReachedIsReached}
 use Rattle.claim_core.specs.Turns.{CallerLists}
 use Rattle.claim_core.proofs.Places.{one_at}
 use Rattle.rewind_log.specs.Laws.{UnwoundIsUnique}
@@ -43,7 +45,7 @@ use Rattle.command_words.specs.declared.command.DocumentCommand.{DocumentCommand
 use Rattle.command_answers.specs.declared.status.Status.{Status}
 use Rattle.command_answers.specs.declared.status.Status.TheVariants as status
 use Rattle.command_answers.specs.Lines.{refusal_line}
-use Rattle.command_answers.specs.Outcomes.{DocumentLists, DocumentRecord, TellsEntries, JournalAgrees, JournalDiffers, in_full, in_plain, IsOutcome, of_run, of_interleave, agreeing, differing, of_check, of_measure, renewing, renew_differing, no_place, unwound, not_unwound, rounded, not_rounded, no_erosion, not_ready, not_elected, elected}
+use Rattle.command_answers.specs.Outcomes.{DocumentLists, DocumentRecord, TellsEntries, JournalAgrees, JournalDiffers, in_full, in_plain, IsOutcome, of_run, of_tickets, of_interleave, agreeing, differing, of_check, of_measure, renewing, renew_differing, no_place, unwound, not_unwound, rounded, not_rounded, no_erosion, not_ready, not_elected, elected}
 use Rattle.command_answers.specs.Commands.{form_of, least_for, IsDocumentOf, IsDocumentFaultOf}
 use Rattle.command_answers.specs.Owed.{usage, read_fault, longer, refused, served, shown, sampled}
 use Rattle.command_answers.specs.Reads.{whole}
@@ -164,6 +166,7 @@ pub record OneOfEach : Type 0 where
   pub later : LaterIsDocument
   pub together : DocumentsFit
   pub runs : RunTextIsOne
+  pub claimed : TicketReachedIsReached
   pub interleaves : InterleaveTextIsOne
   pub replays : ReplayIsDecided
   pub is_run : PlainRunIsRun
@@ -220,6 +223,11 @@ module _ (laws : OneOfEach) where
       → IsOutcome a c s one text → IsOutcome a c t two other → SameOwed (Some (Document c)) (whole bytes) s t one two text other
   one_outcome bytes a c s t one two text other h (of_run d r good reached serial) (of_run e q fine comes serially) =
       let same = λ (decided : IfSome a.lists (λ lists. length lists.ids ≤ 1)). run_is_one a d e r q decided (record { good = good; reached = reached; serial = serial }) (record { good = fine; reached = comes; serial = serially }) in
+      record { status = refl; report = λ decided. (same (decided a h)).0; text = λ decided. (same (decided a h)).1 }
+  one_outcome bytes a c s t one two text other h (of_tickets d r good reached serial) (of_tickets e q fine comes serially) =
+      let first = laws.claimed (setup (verdict_shown d.program) d.start d.lists) r reached in
+      let second = laws.claimed (setup (verdict_shown e.program) e.start e.lists) q comes in
+      let same = λ (decided : IfSome a.lists (λ lists. length lists.ids ≤ 1)). run_is_one a d e r q decided (record { good = good; reached = first; serial = serial }) (record { good = fine; reached = second; serial = serially }) in
       record { status = refl; report = λ decided. (same (decided a h)).0; text = λ decided. (same (decided a h)).1 }
   one_outcome bytes a c s t one two text other h (of_interleave d schedule r its_schedule good reached scheduled) (of_interleave e steps q its_steps fine comes follows) =
       let same = interleave_is_one a d e schedule steps r q its_schedule its_steps (record { good = good; reached = reached; scheduled = scheduled }) (record { good = fine; reached = comes; scheduled = follows }) in

@@ -1,5 +1,5 @@
 -- What the commands answer is what they owe.
-use Rattle.std.proofs.Common.{◌≡◌, ◌<◌, ℕ, List, length, Option, Some, None, inl, inr, ap, refl, sym, subst, ◌∙◌}
+use Rattle.std.proofs.Common.{◌≡◌, ◌<◌, ℕ, List, length, Option, Some, None, inr, ap, sym, subst, ◌∙◌}
 use Rattle.std.specs.Prelude.{IsSome, IfSome}
 use Rattle.std.specs.List.{All}
 use Rattle.std.proofs.lemmas.List.{length-map}

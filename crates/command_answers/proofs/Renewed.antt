@@ -1,5 +1,5 @@
 -- What `renew` writes is a document on which `replay` agrees.
-use Rattle.std.proofs.Common.{◌≡◌, ◌≢◌, ℕ, ◌≤◌, true, false, List, [], ◌∷◌, ◌++◌, length, map, get_or, Option, Some, None, inl, inr, codes, decimal, refl, sym, ap, subst, ◌∙◌, true≢false, append_assoc, arith}
+use Rattle.std.proofs.Common.{◌≡◌, ◌≢◌, ℕ, ◌≤◌, true, List, [], ◌∷◌, ◌++◌, length, map, get_or, Option, Some, None, inl, inr, codes, decimal, refl, sym, ap, subst, ◌∙◌, true≢false, append_assoc, arith}
 use Rattle.std.specs.Prelude.{◌&&◌, nat_le, nat_lt}
 use Rattle.std.specs.Fmt.{digits}
 use Rattle.std.specs.Option.{option_map, IfSome}
@@ -17,7 +17,6 @@ use Rattle.amoebot_state.specs.Steps.{Run, plain_entry}
 use Rattle.amoebot_state.specs.Laws.{ZoneHasAtMostNineBodies}
 use Rattle.claim_core.specs.Limits.{most_turns}
 use Rattle.claim_core.proofs.Frames.{IsFramed, framed_first, framed_on}
-use Rattle.node_text.specs.Parts.{may_have_walls}
 use Rattle.journal_text.specs.Journals.{WrittenEntry, is_known, named_ids}
 use Rattle.journal_text.specs.Limits.{last_caller, last_turn}
 use Rattle.journal_text.specs.Rereading.{KeepsLimits}

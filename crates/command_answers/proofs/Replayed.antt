@@ -28,12 +28,12 @@ use Rattle.command_runs.specs.Reports.{report_text}
 use Rattle.command_runs.specs.Replay.{agrees_line}
 use Rattle.command_runs.specs.Laws.{GoodIsFew}
 use Rattle.command_words.specs.declared.command.DocumentCommand.{DocumentCommand}
-use Rattle.command_words.specs.declared.command.DocumentCommand.TheVariants.{Run, Interleave, Replay, Check, Measure, Renew, Rewind, Rounds, Elect}
+use Rattle.command_words.specs.declared.command.DocumentCommand.TheVariants.{Run, Interleave, Replay, Check, Measure, Renew, Rewind, Rounds, Elect, Tickets}
 use Rattle.command_answers.specs.declared.status.Status.TheVariants as status
 use Rattle.command_answers.specs.Commands.{IsDocumentOf}
-use Rattle.command_answers.specs.Outcomes.{TellsEntries, IsOutcome, of_run, of_interleave, agreeing}
+use Rattle.command_answers.specs.Outcomes.{TellsEntries, IsOutcome, of_run, of_tickets, of_interleave, agreeing}
 use Rattle.command_answers.specs.Owed.{served}
-use Rattle.command_answers.specs.ReplayLaws.{IsReplayed, RunTextsAreReplayed, InterleaveTextsAreReplayed, WhatIsOwedIsReplayed}
+use Rattle.command_answers.specs.ReplayLaws.{IsReplayed, RunTextsAreReplayed, TicketTextsAreReplayed, InterleaveTextsAreReplayed, WhatIsOwedIsReplayed}
 use Rattle.claim_core.proofs.Frames.{IsFramed, framed_first, framed_on}
 use Rattle.command_answers.proofs.Worlds.{MayRun, maxes_are, is_writable}
 use Rattle.command_answers.proofs.DocumentWorlds.{drawn, may, start_walls}
@@ -161,6 +161,9 @@ module _ (laws : Laws) where
   pub run_texts_are_replayed : RunTextsAreReplayed
   run_texts_are_replayed bytes a report text line holds (of_run d r good reached serial) = is_replayed laws bytes a d.program d.start d.lists report holds d.its_program d.its_shape d.its_lists good text line refl
 
+  pub ticket_texts_are_replayed : TicketTextsAreReplayed
+  ticket_texts_are_replayed bytes a report text line holds (of_tickets d r good reached serial) = is_replayed laws bytes a d.program d.start d.lists report holds d.its_program d.its_shape d.its_lists good text line refl
+
   interleave_text_is_replayed : (bytes : List ℕ) (a : Contents) (report : Report) (text : List ℕ) → EndsLine bytes → HasContents form.Run bytes a → IsOutcome a Interleave status.Done (Some report) text → IsReplayed bytes a report text
   interleave_text_is_replayed bytes a report text line holds (of_interleave d schedule r its_schedule good reached scheduled) = is_replayed laws bytes a d.program d.start d.lists report holds d.its_program d.its_shape d.its_lists good text line refl
 
@@ -177,6 +180,7 @@ module _ (laws : Laws) where
   outcome_is_replayed (Rewind place) bytes a report text line holds is = elim is [ ]
   outcome_is_replayed Rounds bytes a report text line holds is = elim is [ ]
   outcome_is_replayed Elect bytes a report text line holds is = elim is [ ]
+  outcome_is_replayed Tickets bytes a report text line holds is = ticket_texts_are_replayed bytes a report text line holds is
 
   pub what_is_owed_is_replayed : WhatIsOwedIsReplayed
   what_is_owed_is_replayed c bytes report text line (served d same a s told v holds is) = (outcome_is_replayed c bytes a report text line holds is).agrees

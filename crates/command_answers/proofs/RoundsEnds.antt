@@ -1,7 +1,6 @@
 -- `rounds` ends as `replay` does.
 use Rattle.std.proofs.Common.{◌≡◌, ◌≢◌, ℕ, List, length, Option, Some, None, refl, subst}
 use Rattle.std.specs.Prelude.{IfSome}
-use Rattle.amoebot_state.specs.declared.verdict.Entry.{Entry}
 use Rattle.amoebot_state.specs.Configs.{Config}
 use Rattle.round_meter.specs.Laws.{EachRunIsRounded}
 use Rattle.shape_files.specs.declared.section_kind.Form.TheVariants as form
@@ -13,7 +12,7 @@ use Rattle.command_words.specs.declared.command.DocumentCommand.TheVariants.{Rep
 use Rattle.command_answers.specs.declared.status.Status.{Status}
 use Rattle.command_answers.specs.declared.status.Status.TheVariants as status
 use Rattle.command_answers.specs.Reads.{Read, whole}
-use Rattle.command_answers.specs.Outcomes.{DocumentRecord, JournalAgrees, IsOutcome, agreeing, differing, rounded, not_rounded}
+use Rattle.command_answers.specs.Outcomes.{IsOutcome, agreeing, differing, rounded, not_rounded}
 use Rattle.command_answers.specs.Owed.{read_fault, longer, refused, served}
 use Rattle.command_answers.specs.RenewLaws.{IsOwedFor}
 use Rattle.command_answers.specs.RoundsLaws.{RoundsEndAsReplay}

@@ -1,5 +1,5 @@
 -- Something is owed.
-use Rattle.std.proofs.Common.{◌≡◌, ◌<◌, ◌≤◌, ◌*◌, ◌⊎◌, ℕ, Bool, List, [], length, map, codes, true, Option, Some, None, Result, Ok, Err, inl, inr, refl, ap, sym, subst, ◌∙◌, arith}
+use Rattle.std.proofs.Common.{◌≡◌, ◌≤◌, ◌*◌, ◌⊎◌, ℕ, Bool, List, [], length, codes, true, Option, Some, None, Result, Ok, Err, inl, inr, refl, ap, sym, subst, arith}
 use Rattle.std.specs.Prelude.{IsSome, IfSome, reverse}
 use Rattle.std.specs.List.{All}
 use Rattle.std.specs.Option.{option_or}
@@ -16,9 +16,10 @@ use Rattle.amoebot_state.proofs.Options.{there_is}
 use Rattle.model_ops.specs.Laws.{ActsKeepDeciderLaws}
 use Rattle.claim_core.specs.Turns.{AreLists, CallerLists}
 use Rattle.claim_core.specs.Good.{Good}
-use Rattle.claim_core.specs.Machine.{Setup, setup}
+use Rattle.claim_core.specs.Machine.{setup}
 use Rattle.claim_core.specs.Soundness.{IsSetup}
 use Rattle.claim_core.specs.Laws.{OneListIsSerial, ReachedIsGood, RoundsLeaveAReport}
+use Rattle.claim_core.specs.TicketLaws.{TicketReachedIsGood, TicketsLeaveAReport}
 use Rattle.claim_core.proofs.Stays.{world_last}
 use Rattle.rewind_log.specs.Laws.{UnwoundIsSome}
 use Rattle.rewind_log.specs.Unwinding.{IsUnwound}
@@ -47,12 +48,12 @@ use Rattle.command_runs.specs.Rounds.{rounds_text}
 use Rattle.command_runs.specs.Sample.{sample_text}
 use Rattle.command_words.specs.declared.command.Command.TheVariants.{Document, Sample}
 use Rattle.command_words.specs.declared.command.DocumentCommand.{DocumentCommand}
-use Rattle.command_words.specs.declared.command.DocumentCommand.TheVariants.{Run, Interleave, Replay, Check, Measure, Renew, Rewind, Rounds, Elect}
+use Rattle.command_words.specs.declared.command.DocumentCommand.TheVariants.{Run, Interleave, Replay, Check, Measure, Renew, Rewind, Rounds, Elect, Tickets}
 use Rattle.command_answers.specs.declared.status.Status.{Status}
 use Rattle.command_answers.specs.declared.status.Status.TheVariants as status
 use Rattle.command_answers.specs.Commands.{form_of, least_for, with_old_values, IsDocumentOf}
 use Rattle.command_answers.specs.Lines.{read_fault_line, refusal_line, too_long, usage_line, no_such_place, not_erosion, bad_start}
-use Rattle.command_answers.specs.Outcomes.{DocumentRecord, DocumentLists, JournalAgrees, JournalDiffers, in_full, in_plain, IsOutcome, last_shape, of_run, of_interleave, agreeing, differing, of_check, of_measure, renewing, renew_differing, no_place, unwound, not_unwound, rounded, not_rounded, no_erosion, not_ready, not_elected, elected}
+use Rattle.command_answers.specs.Outcomes.{DocumentRecord, DocumentLists, JournalAgrees, JournalDiffers, in_full, in_plain, IsOutcome, last_shape, of_run, of_tickets, of_interleave, agreeing, differing, of_check, of_measure, renewing, renew_differing, no_place, unwound, not_unwound, rounded, not_rounded, no_erosion, not_ready, not_elected, elected}
 use Rattle.command_answers.specs.Owed.{usage, read_fault, longer, refused, served, shown, sampled}
 use Rattle.command_answers.specs.Reads.{nothing, whole}
 use Rattle.command_answers.specs.Laws.{OwedIsSome, SomethingOwed}
@@ -69,6 +70,8 @@ pub record Exists : Type 0 where
   pub sound : DocumentsAreSound
   pub rounds : RoundsLeaveAReport
   pub goods : ReachedIsGood
+  pub tickets : TicketsLeaveAReport
+  pub fine : TicketReachedIsGood
   pub serials : OneListIsSerial
   pub replays : ReplayIsDecided
   pub plain_runs : PlainRunIsRun
@@ -129,6 +132,13 @@ module _ (laws : Exists) where
         let end = laws.rounds g (runs d) [] in
         let good : Good (verdict_shown d.program) d.start d.lists end.report = laws.goods g (runs d) end.report end.reached in
         record { status = status.Done; report = Some end.report; text = report_text a.version (length d.program.vars) end.report; is = of_run d end.report good end.reached (λ few. laws.serials (verdict_shown d.program) d.start d.lists end.report few good) }
+
+    tickets_outcome : DocumentLists a → HasOutcome a Tickets
+    tickets_outcome d =
+        let g = setup (verdict_shown d.program) d.start d.lists in
+        let (report, reached) = laws.tickets g (runs d) in
+        let good : Good (verdict_shown d.program) d.start d.lists report = laws.fine g (runs d) report reached in
+        record { status = status.Done; report = Some report; text = report_text a.version (length d.program.vars) report; is = of_tickets d report good reached (λ few. laws.serials (verdict_shown d.program) d.start d.lists report few good) }
 
     interleave_outcome : DocumentLists a → IsSome a.schedule → HasOutcome a Interleave
     interleave_outcome d scheduled =
@@ -255,6 +265,7 @@ module _ (laws : Exists) where
   outcome (Rewind place) bytes a h = rewind_outcome bytes a (Rewind place) h place (laws.values with_old_values bytes a refl h) (fits bytes a (Rewind place) h).sections
   outcome Rounds bytes a h = rounds_outcome bytes a Rounds h (fits bytes a Rounds h).sections
   outcome Elect bytes a h = elect_outcome bytes a Elect h (fits bytes a Elect h).sections
+  outcome Tickets bytes a h = let has = (fits bytes a Tickets h).sections in tickets_outcome bytes a Tickets h (lists_of bytes a Tickets h has.0 has.1 has.2)
 
   for_whole : (c : DocumentCommand) (bytes : List ℕ) → SomethingOwed (Some (Document c)) (whole bytes)
   for_whole c bytes = let by = (laws.documents (least_for c) (form_of c)).some bytes in said by.0 by.1

@@ -9,9 +9,10 @@ use Rattle.amoebot_state.specs.Configs.{Config, bot_at}
 use Rattle.serial_model.specs.Replays.{AreCountable}
 use Rattle.claim_core.specs.declared.report.Report.{Report}
 use Rattle.claim_core.specs.Turns.{CallerLists}
-use Rattle.claim_core.specs.Machine.{setup}
+use Rattle.claim_core.specs.Machine.{Setup, setup}
 use Rattle.claim_core.specs.Good.{Good}
 use Rattle.claim_core.specs.Reached.{Reached}
+use Rattle.claim_core.specs.Tickets.{TicketReached}
 use Rattle.action_tree.specs.Trees.{Program}
 use Rattle.action_meaning.specs.Verdicts.{verdict_shown}
 use Rattle.shape_files.specs.Documents.{Contents}
@@ -26,14 +27,17 @@ use Rattle.command_runs.specs.Sample.{IsSampleText}
 use Rattle.command_words.specs.declared.command.Command.{Command}
 use Rattle.command_words.specs.declared.command.Command.TheVariants.{Document, Sample}
 use Rattle.command_words.specs.declared.command.DocumentCommand.{DocumentCommand}
+use Rattle.command_words.specs.declared.command.DocumentCommand.TheVariants.{Tickets}
 use Rattle.command_answers.specs.declared.answer.Answer.{Answer}
+use Rattle.command_answers.specs.declared.answer.Maker.{Maker}
+use Rattle.command_answers.specs.declared.answer.Maker.TheVariants as maker
 use Rattle.command_answers.specs.declared.answer.Prepared.{Prepared}
 use Rattle.command_answers.specs.declared.answer.Task.{Task}
 use Rattle.command_answers.specs.declared.answer.Task.TheVariants as task
 use Rattle.command_answers.specs.declared.answer.Telling.{Telling}
 use Rattle.command_answers.specs.declared.answer.Telling.TheVariants as telling
 use Rattle.command_answers.specs.declared.status.Status.TheVariants as status
-use Rattle.command_answers.specs.Commands.{IsDocumentOf, IsWorked}
+use Rattle.command_answers.specs.Commands.{IsDocumentOf, NeedsWorkers, TurnMaker, maker_of, the_tickets, the_workers}
 use Rattle.command_answers.specs.Lines.{refusal_line}
 use Rattle.command_answers.specs.Reads.{Read, nothing, whole}
 use Rattle.command_answers.specs.Owed.{IsOwed}
@@ -95,7 +99,22 @@ abbrev pub IsCounted : Telling → Report → Type 0
 IsCounted (telling.Report version) report = ⊤
 IsCounted (telling.Sample seed) report = AreCountable report.journal.entries
 
--- whose lists are to be run, under which program and from which shape on, and which text the run gets
+-- what the table calls those who are to make turns
+abbrev pub turn_maker : Maker → TurnMaker
+turn_maker maker.Workers = the_workers
+turn_maker maker.Tickets = the_tickets
+
+-- who is to make the turns of the lists of a document
+abbrev pub maker_for : DocumentCommand → Maker
+maker_for Tickets = maker.Tickets
+maker_for c = maker.Workers
+
+-- their steps give the report
+abbrev pub ReachedBy : Maker → Setup → Report → Type 0
+ReachedBy maker.Workers g report = Reached g report
+ReachedBy maker.Tickets g report = TicketReached g report
+
+-- whose lists are to be run, under which program and from which shape on, which text the run gets, and who makes its turns
 pub data IsRunFor (run : Prepared) : Option Command → Read → Type 0 where
   -- those of a document; it gets the text of its report in the document's version
   of_document : (c : DocumentCommand) (bytes : List ℕ) (a : Contents)
@@ -104,23 +123,25 @@ pub data IsRunFor (run : Prepared) : Option Command → Read → Type 0 where
       → a.world ≡ Some run.world
       → a.lists ≡ Some run.lists
       → run.telling ≡ telling.Report a.version
+      → run.maker ≡ maker_for c
       → IsRunFor run (Some (Document c)) (whole bytes)
   -- those of a number's sample; it gets the six lines
   of_number : (seed : ℕ)
       → IsSample seed (record { checked = run.runner; world = run.world; lists = run.lists })
       → run.telling ≡ telling.Sample seed
+      → run.maker ≡ maker.Workers
       → IsRunFor run (Some (Sample seed)) nothing
 
--- Workers are to run lists for a command, whose amoebots are there.
--- Each good report of them, which an interleaving gives, is owed with each text that tells it.
+-- Workers are to run lists for a command, whose amoebots are there. They are those that make the command's turns.
+-- Each good report of them, which their steps give, is owed with each text that tells it.
 pub record IsPrepared (command : Option Command) (read : Read) (run : Prepared) : Type 0 where
-  pub by_workers : IsWorked command
+  pub its_maker : maker_of command ≡ turn_maker run.maker
   pub its_lists : IsRunFor run command read
   pub there : All (All (λ (id : ℕ). IsSome (bot_at run.world id))) run.lists.ids
   pub few : (report : Report) → Good (verdict_shown run.runner) run.world run.lists report → IsCounted run.telling report
   pub owed : (report : Report) (text : List ℕ)
       → Good (verdict_shown run.runner) run.world run.lists report
-      → Reached (setup (verdict_shown run.runner) run.world run.lists) report
+      → ReachedBy run.maker (setup (verdict_shown run.runner) run.world run.lists) report
       → Tells run.telling run.runner run.lists report text
       → IsOwed command read status.Done (Some report) text
 
@@ -131,7 +152,7 @@ pub record IsPrepared (command : Option Command) (read : Read) (run : Prepared) 
 abbrev pub IsTaskOf : DocumentCommand → List ℕ → Task → Type 0
 IsTaskOf c bytes (task.Answered answer) =
     IsOwed (Some (Document c)) (whole bytes) answer.status answer.report answer.text
-    × (IsWorked (Some (Document c)) → answer.status ≢ status.Done)
+    × (NeedsWorkers (Some (Document c)) → answer.status ≢ status.Done)
 IsTaskOf c bytes (task.Run run) = IsPrepared (Some (Document c)) (whole bytes) run
 
 -- the same for each whole input that is a document with these contents

@@ -10,7 +10,7 @@ use Rattle.text_tokens.specs.declared.refusal.Refusal.{Refusal}
 use Rattle.command_words.specs.declared.command.Command.{Command}
 use Rattle.command_words.specs.declared.command.Command.TheVariants.{Document, Show, Sample}
 use Rattle.command_words.specs.declared.command.DocumentCommand.{DocumentCommand}
-use Rattle.command_words.specs.declared.command.DocumentCommand.TheVariants.{Run, Interleave, Replay, Check, Measure, Renew, Rewind, Rounds, Elect}
+use Rattle.command_words.specs.declared.command.DocumentCommand.TheVariants.{Run, Interleave, Replay, Check, Measure, Renew, Rewind, Rounds, Elect, Tickets}
 use Rattle.command_answers.specs.declared.status.Status.{Status}
 use Rattle.command_answers.specs.declared.status.Status.TheVariants as status
 
@@ -22,6 +22,8 @@ pub data TurnMaker : Type 0 where
   the_schedule : TurnMaker
   -- a worker for each list
   the_workers : TurnMaker
+  -- a worker for each list, whose commits draw their places
+  the_tickets : TurnMaker
 
 -- what the table says of a command that reads a document
 pub record CommandRow : Type 0 where
@@ -55,6 +57,7 @@ row_of Renew = record { form = form.Replay; least = least_version; limit = many_
 row_of (Rewind place) = record { form = form.Replay; least = with_old_values; limit = many_mebibytes; maker = no_maker }
 row_of Rounds = record { form = form.Replay; least = least_version; limit = many_mebibytes; maker = no_maker }
 row_of Elect = record { form = form.Replay; least = least_version; limit = many_mebibytes; maker = no_maker }
+row_of Tickets = record { form = form.Run; least = least_version; limit = mebibyte; maker = the_tickets }
 
 -- the form of a command's document
 abbrev pub form_of : DocumentCommand → Form
@@ -98,20 +101,44 @@ abbrev pub SomebodyMakes : TurnMaker → Type 0
 SomebodyMakes no_maker = ⊥
 SomebodyMakes the_schedule = ⊤
 SomebodyMakes the_workers = ⊤
+SomebodyMakes the_tickets = ⊤
 
--- workers make them
+-- workers make them, and take the journal for each commit
 abbrev pub AreWorkers : TurnMaker → Type 0
 AreWorkers no_maker = ⊥
 AreWorkers the_schedule = ⊥
 AreWorkers the_workers = ⊤
+AreWorkers the_tickets = ⊥
+
+-- workers make them, whose commits draw their places
+abbrev pub AreTickets : TurnMaker → Type 0
+AreTickets no_maker = ⊥
+AreTickets the_schedule = ⊥
+AreTickets the_workers = ⊥
+AreTickets the_tickets = ⊤
+
+-- workers make them in either way
+abbrev pub HaveWorkers : TurnMaker → Type 0
+HaveWorkers no_maker = ⊥
+HaveWorkers the_schedule = ⊥
+HaveWorkers the_workers = ⊤
+HaveWorkers the_tickets = ⊤
 
 -- the command makes the turns of lists: those of a document, or those of a sample
 abbrev pub MakesTurns : Option Command → Type 0
 MakesTurns c = SomebodyMakes (maker_of c)
 
--- and workers make them
+-- workers make them, and take the journal for each commit
 abbrev pub IsWorked : Option Command → Type 0
 IsWorked c = AreWorkers (maker_of c)
+
+-- workers make them, whose commits draw their places
+abbrev pub IsTicketed : Option Command → Type 0
+IsTicketed c = AreTickets (maker_of c)
+
+-- workers make them in either way
+abbrev pub NeedsWorkers : Option Command → Type 0
+NeedsWorkers c = HaveWorkers (maker_of c)
 
 -- the number with which the program ends
 abbrev pub status_number : Status → ℕ

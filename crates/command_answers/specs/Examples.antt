@@ -25,9 +25,10 @@ use Rattle.command_answers.specs.Lines.{usage_line, too_long}
 use Rattle.command_answers.specs.Reads.{nothing, whole, above, up_to_fault}
 use Rattle.command_answers.specs.Owed.{IsOwed}
 use Rattle.command_answers.specs.declared.answer.Task.TheVariants as task
+use Rattle.command_answers.specs.declared.answer.Maker.TheVariants as maker
 use Rattle.command_answers.specs.declared.answer.Telling.TheVariants as telling
 use Rattle.command_answers.specs.Answers.{IsTaskOf, refused_with}
-use Rattle.command_words.specs.declared.command.DocumentCommand.TheVariants.{Run, Interleave}
+use Rattle.command_words.specs.declared.command.DocumentCommand.TheVariants.{Run, Interleave, Tickets}
 
 -- ---- texts
 
@@ -159,6 +160,9 @@ pub record SmallAnswers : Type 0 where
   pub run : IsOwed (command_of (codes "run" ∷ [])) (whole with_list) status.Done (Some expansion_report) expansion_report_text
   -- one of the reports that may be told of two lists
   pub two_lists : IsOwed (command_of (codes "run" ∷ [])) (whole with_two_lists) status.Done (Some two_callers_report) both_text
+  pub tickets : IsOwed (command_of (codes "tickets" ∷ [])) (whole with_list) status.Done (Some expansion_report) expansion_report_text
+  pub two_with_tickets : IsOwed (command_of (codes "tickets" ∷ [])) (whole with_two_lists)
+      status.Done (Some two_callers_report) both_text
   pub interleave : IsOwed (command_of (codes "interleave" ∷ [])) (whole with_schedule)
       status.Done (Some expansion_report) expansion_report_text
   pub agrees : IsOwed (command_of (codes "replay" ∷ [])) (whole (with_shape ++ expansion_journal ++ spread_text))
@@ -174,7 +178,9 @@ pub record SmallAnswers : Type 0 where
   pub measure : IsOwed (command_of (codes "measure" ∷ [])) (whole with_nobody)
       status.Done None (codes "bots 0\nconnected yes\nhexagon no\n")
   pub show : IsOwed (command_of (codes "show" ∷ codes "line" ∷ [])) nothing status.Done None shown_line
-  -- what is to be done for an input that is refused at once, and for a document of `run`
+  -- what is to be done for an input that is refused at once, and for a document of `run` and of `tickets`
   pub refused_task : IsTaskOf Interleave [] (task.Answered (refused_with empty_refused))
   pub run_task : IsTaskOf Run with_list
-      (task.Run (record { runner = out; world = one_alone; lists = one_list; telling = telling.Report 1 }))
+      (task.Run (record { runner = out; world = one_alone; lists = one_list; telling = telling.Report 1; maker = maker.Workers }))
+  pub tickets_task : IsTaskOf Tickets with_list
+      (task.Run (record { runner = out; world = one_alone; lists = one_list; telling = telling.Report 1; maker = maker.Tickets }))

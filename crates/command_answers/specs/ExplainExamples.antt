@@ -12,7 +12,7 @@ use Rattle.command_answers.specs.declared.status.Status.TheVariants as status
 use Rattle.command_answers.specs.Lines.{no_such_place, not_erosion}
 use Rattle.command_answers.specs.Owed.{IsOwed}
 use Rattle.command_answers.specs.Reads.{whole}
-use Rattle.command_answers.specs.Examples.{with_shape, with_nobody, expansion_journal, spread_text, spread_config, still_text, expansion, and_shape, and_nobody}
+use Rattle.command_answers.specs.Examples.{with_shape, with_nobody, expansion_journal, spread_text, still_text, expansion, and_shape, and_nobody}
 
 -- ---- texts
 

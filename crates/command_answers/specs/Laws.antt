@@ -12,7 +12,7 @@ use Rattle.command_runs.specs.Laws.{SameReport}
 use Rattle.command_words.specs.declared.command.Command.{Command}
 use Rattle.command_words.specs.declared.command.Command.TheVariants.{Document, Show, Sample}
 use Rattle.command_words.specs.declared.command.DocumentCommand.{DocumentCommand}
-use Rattle.command_words.specs.declared.command.DocumentCommand.TheVariants.{Run}
+use Rattle.command_words.specs.declared.command.DocumentCommand.TheVariants.{Run, Tickets}
 use Rattle.command_answers.specs.declared.answer.Answer.{Answer}
 use Rattle.command_answers.specs.declared.answer.Prepared.{Prepared}
 use Rattle.command_answers.specs.declared.answer.Task.{Task}
@@ -34,10 +34,12 @@ SameIfAny None (Some two) = ⊥
 SameIfAny (Some one) None = ⊥
 SameIfAny (Some one) (Some two) = SameReport one two
 
--- At most one report may be told, except for `run` of a document with two lists or more, and for `sample`.
+-- At most one report may be told, except for `run` and `tickets` of a document with two lists or more, and for `sample`.
 -- There it is that of any interleaving.
 abbrev pub HasOneReport : Option Command → Read → Type 0
 HasOneReport (Some (Document Run)) (whole bytes) =
+    (a : Contents) → HasContents form.Run bytes a → IfSome a.lists (λ lists. length lists.ids ≤ 1)
+HasOneReport (Some (Document Tickets)) (whole bytes) =
     (a : Contents) → HasContents form.Run bytes a → IfSome a.lists (λ lists. length lists.ids ≤ 1)
 HasOneReport (Some (Sample seed)) read = ⊥
 HasOneReport c read = ⊤
@@ -45,6 +47,7 @@ HasOneReport c read = ⊤
 -- and at most one text: so for `sample` too
 abbrev pub HasOneText : Option Command → Read → Type 0
 HasOneText (Some (Document Run)) (whole bytes) = HasOneReport (Some (Document Run)) (whole bytes)
+HasOneText (Some (Document Tickets)) (whole bytes) = HasOneReport (Some (Document Tickets)) (whole bytes)
 HasOneText c read = ⊤
 
 -- for a command and what the input came to, one status is owed at most: so Done, Refused and Differs exclude each other; and where that

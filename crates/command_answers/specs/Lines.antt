@@ -1,5 +1,5 @@
 -- The lines of the answers that are no text of a command.
-use Rattle.std.specs.Prelude.{ℕ, List, [], ◌∷◌, codes, decimal}
+use Rattle.std.specs.Prelude.{ℕ, List, [], ◌∷◌, ◌++◌, codes, decimal}
 use Rattle.text_tokens.specs.declared.refusal.Refusal.{Refusal}
 use Rattle.text_tokens.specs.declared.refusal.RefusalKind.TheVariants as kind
 use Rattle.text_tokens.specs.Kinds.{name}
@@ -7,7 +7,8 @@ use Rattle.text_tokens.specs.Lines.{line_text}
 
 abbrev pub usage_line : List ℕ
 usage_line =
-    codes "usage: run / interleave / replay / check / measure / show NAME / sample NUMBER / renew / rewind NUMBER / rounds / elect\n"
+    codes "usage: run / interleave / replay / check / measure / show NAME / sample NUMBER"
+    ++ codes " / renew / rewind NUMBER / rounds / elect / tickets\n"
 
 abbrev pub read_fault_line : List ℕ
 read_fault_line = codes "read fault\n"

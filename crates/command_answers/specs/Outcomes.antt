@@ -14,6 +14,7 @@ use Rattle.claim_core.specs.Machine.{setup}
 use Rattle.claim_core.specs.Good.{Good}
 use Rattle.claim_core.specs.Reached.{Reached}
 use Rattle.claim_core.specs.SerialRuns.{SerialRun, all_turns, left_by}
+use Rattle.claim_core.specs.Tickets.{TicketReached}
 use Rattle.rewind_log.specs.Unwinding.{IsUnwound}
 use Rattle.round_meter.specs.Rounds.{IsRounded}
 use Rattle.shape_checks.specs.Values.{value_count}
@@ -31,7 +32,7 @@ use Rattle.command_runs.specs.Renew.{renewed_text}
 use Rattle.command_runs.specs.Reports.{report_text}
 use Rattle.command_runs.specs.Rounds.{rounds_text}
 use Rattle.command_words.specs.declared.command.DocumentCommand.{DocumentCommand}
-use Rattle.command_words.specs.declared.command.DocumentCommand.TheVariants.{Run, Interleave, Replay, Check, Measure, Renew, Rewind, Rounds, Elect}
+use Rattle.command_words.specs.declared.command.DocumentCommand.TheVariants.{Run, Interleave, Replay, Check, Measure, Renew, Rewind, Rounds, Elect, Tickets}
 use Rattle.command_answers.specs.declared.status.Status.{Status}
 use Rattle.command_answers.specs.declared.status.Status.TheVariants as status
 use Rattle.command_answers.specs.Lines.{refusal_line, no_such_place, not_erosion, bad_start}
@@ -87,6 +88,12 @@ pub data IsOutcome (a : Contents) : DocumentCommand → Status → Option Report
       → Reached (setup (verdict_shown d.program) d.start d.lists) report
       → (length d.lists.ids ≤ 1 → SerialRun (verdict_shown d.program) d.start d.lists (all_turns d.lists) (left_by report))
       → IsOutcome a Run status.Done (Some report) (report_text a.version (length d.program.vars) report)
+  -- `tickets`: the same of a report that an interleaving gives where commits draw their places
+  of_tickets : (d : DocumentLists a) (report : Report)
+      → Good (verdict_shown d.program) d.start d.lists report
+      → TicketReached (setup (verdict_shown d.program) d.start d.lists) report
+      → (length d.lists.ids ≤ 1 → SerialRun (verdict_shown d.program) d.start d.lists (all_turns d.lists) (left_by report))
+      → IsOutcome a Tickets status.Done (Some report) (report_text a.version (length d.program.vars) report)
   -- `interleave`: the report is a good one too, and the interleaving of the schedule gives it
   of_interleave : (d : DocumentLists a) (schedule : List ℕ) (report : Report)
       → a.schedule ≡ Some schedule

@@ -1,5 +1,5 @@
 -- What `renew` writes, and how it ends.
-use Rattle.std.specs.Prelude.{◌≡◌, ◌≢◌, ◌≤◌, ◌↔◌, ℕ, List, length}
+use Rattle.std.specs.Prelude.{◌≢◌, ◌≤◌, ◌↔◌, ℕ, List, length}
 use Rattle.std.specs.declared.option.Option.TheVariants.{Some, None}
 use Rattle.amoebot_state.specs.declared.verdict.Entry.{Entry}
 use Rattle.shape_files.specs.declared.section_kind.Form.TheVariants as form

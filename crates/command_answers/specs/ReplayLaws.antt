@@ -8,7 +8,7 @@ use Rattle.shape_files.specs.RunTexts.{EndsLine, recorded_with}
 use Rattle.command_runs.specs.Replay.{agrees_line}
 use Rattle.command_words.specs.declared.command.Command.TheVariants.{Document}
 use Rattle.command_words.specs.declared.command.DocumentCommand.{DocumentCommand}
-use Rattle.command_words.specs.declared.command.DocumentCommand.TheVariants.{Run, Interleave, Replay}
+use Rattle.command_words.specs.declared.command.DocumentCommand.TheVariants.{Run, Interleave, Replay, Tickets}
 use Rattle.command_answers.specs.declared.status.Status.TheVariants as status
 use Rattle.command_answers.specs.Reads.{whole}
 use Rattle.command_answers.specs.Outcomes.{IsOutcome}
@@ -32,6 +32,15 @@ RunTextsAreReplayed =
     → EndsLine bytes
     → HasContents form.Run bytes a
     → IsOutcome a Run status.Done (Some report) text
+    → IsReplayed bytes a report text
+
+-- and with each such text of `tickets`, which reads the same documents
+abbrev pub TicketTextsAreReplayed : Type 0
+TicketTextsAreReplayed =
+    (bytes : List ℕ) (a : Contents) (report : Report) (text : List ℕ)
+    → EndsLine bytes
+    → HasContents form.Run bytes a
+    → IsOutcome a Tickets status.Done (Some report) text
     → IsReplayed bytes a report text
 
 -- and with each such text of `interleave`, whose documents are also documents of `run`

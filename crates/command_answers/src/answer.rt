@@ -28,13 +28,23 @@ pub enum Telling {
     Sample(u32),
 }
 
-/// A run that is prepared: its decider, the world at its start, its callers' lists, and which text it gets.
+/// Who makes the turns of lists that are prepared.
+#[derive(Clone, Copy, Debug, PartialEq, Eq)]
+pub enum Maker {
+    /// A worker for each list.
+    Workers,
+    /// A worker for each list, whose commits draw their places.
+    Tickets,
+}
+
+/// A run that is prepared: its decider, the world at its start, its callers' lists, which text it gets, and who makes its turns.
 #[derive(Drop)]
 pub struct Prepared {
     pub runner: Runner,
     pub world: World,
     pub lists: Lists,
     pub telling: Telling,
+    pub maker: Maker,
 }
 
 /// What is to be done for a whole input.

@@ -6,7 +6,10 @@ ghost use Rattle.command_answers.specs.Examples.{SmallAnswers};
 ghost use Rattle.command_answers.specs.ExplainExamples.{SmallExplanations};
 
 use action_meaning::changes_are_acts;
-use claim_core::{one_list_is_serial, reached_is_good, rounds_leave_a_report};
+use claim_core::{
+    one_list_is_serial, reached_is_good, rounds_leave_a_report, ticket_reached_is_good,
+    ticket_reached_is_reached, tickets_leave_a_report,
+};
 use command_runs::{
     good_stays_connected, interleave_text_is_one, measure_text_is_one, replay_is_decided,
     run_text_is_one, sample_text_is_one,
@@ -21,13 +24,14 @@ use shape_checks::measures_are_decided;
 use shape_files::{documents_are_sound, documents_fit, least_versions_are_kept};
 
 /// For a command and what the input came to, at most one status is owed.
-/// At most one report is owed, except for `run` of two lists or more and for `sample`.
-/// At most one text is owed, except for `run` of two lists or more.
+/// At most one report is owed, except for `run` and `tickets` of two lists or more and for `sample`.
+/// At most one text is owed, except for `run` and `tickets` of two lists or more.
 pub fn owed_is_one()
     ensures { OwedIsOne }
 {
     least_versions_are_kept();
     run_text_is_one();
+    ticket_reached_is_reached();
     interleave_text_is_one();
     replay_is_decided();
     plain_run_is_run();
@@ -51,6 +55,8 @@ pub fn owed_is_some()
     documents_are_sound();
     rounds_leave_a_report();
     reached_is_good();
+    tickets_leave_a_report();
+    ticket_reached_is_good();
     one_list_is_serial();
     replay_is_decided();
     plain_run_is_run();
@@ -92,14 +98,15 @@ pub fn documents_have_outcomes()
     least_versions_are_kept();
 }
 
-/// A report is owed exactly where `run`, `interleave` or `sample` is done. Then it is a good one of the turns of a document's lists under
-/// its program, from its shape on, or of those of a sample: the headline.
+/// A report is owed exactly where `run`, `interleave`, `tickets` or `sample` is done. Then it is a good one of the turns of a document's
+/// lists under its program, from its shape on, or of those of a sample: the headline.
 pub fn reports_are_of_runs()
     ensures exactly { ReportsAreOfTurns }
     ensures document { ReportsAreOfDocuments }
     ensures sample { ReportsAreOfSamples }
 {
     good_stays_connected();
+    ticket_reached_is_reached();
     one_list_is_serial();
     sample_is_fit();
 }

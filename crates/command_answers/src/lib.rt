@@ -15,6 +15,7 @@ mod of_rounds;
 mod of_run;
 mod of_sample;
 mod of_show;
+mod of_tickets;
 mod recorded;
 mod renew_laws;
 mod replay_laws;
@@ -25,7 +26,7 @@ mod table;
 mod tasks;
 mod telling;
 
-pub use answer::{Answer, Prepared, Task, Telling};
+pub use answer::{Answer, Maker, Prepared, Task, Telling};
 pub use elect_laws::elections_are_won;
 pub use laws::{
     documents_have_outcomes, owed_is_one, owed_is_some, prepared_is_one, reports_are_of_runs,

@@ -6,7 +6,7 @@ ghost use Rattle.command_answers.specs.declared.answer.Task.{Task};
 ghost use Rattle.command_answers.specs.Answers.{IsTaskTo};
 ghost use Rattle.command_answers.specs.Commands.{form_of};
 
-use crate::answer::{Prepared, Telling};
+use crate::answer::{Maker, Prepared, Telling};
 use action_eval::Runner;
 use claim_core::one_list_is_serial;
 use command_words::DocumentCommand;
@@ -35,5 +35,6 @@ pub(crate) fn prepare(parts: Parts) -> Prepared
         world,
         lists,
         telling: Telling::Report(version),
+        maker: Maker::Workers,
     }
 }

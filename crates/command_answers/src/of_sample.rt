@@ -5,7 +5,7 @@ ghost use Rattle.command_words.specs.declared.command.Command.TheVariants.{Sampl
 ghost use Rattle.command_answers.specs.Answers.{IsPrepared};
 ghost use Rattle.command_answers.specs.Reads.{nothing};
 
-use crate::answer::{Prepared, Telling};
+use crate::answer::{Maker, Prepared, Telling};
 use action_eval::Runner;
 use amoebot_state::NoMemory;
 use command_runs::good_is_few;
@@ -24,5 +24,6 @@ pub fn prepare_sample(alloc: Global, seed: u32) -> Result<Prepared, NoMemory>
         world: sample.world,
         lists: sample.lists,
         telling: Telling::Sample(seed),
+        maker: Maker::Workers,
     })
 }

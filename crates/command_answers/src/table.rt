@@ -44,6 +44,7 @@ pub fn row_of(command: DocumentCommand) -> Row
         DocumentCommand::Rewind(_) => (Form::Replay, WITH_OLD_VALUES, MANY_MEBIBYTES),
         DocumentCommand::Rounds => (Form::Replay, LEAST_VERSION, MANY_MEBIBYTES),
         DocumentCommand::Elect => (Form::Replay, LEAST_VERSION, MANY_MEBIBYTES),
+        DocumentCommand::Tickets => (Form::Run, LEAST_VERSION, MEBIBYTE),
     };
     Row { form, least, limit }
 }

@@ -21,6 +21,7 @@ use crate::of_replay::answer_replay;
 use crate::of_rewind::answer_rewind;
 use crate::of_rounds::answer_rounds;
 use crate::of_run::prepare;
+use crate::of_tickets::prepare_tickets;
 use crate::table::{Row, row_of};
 use amoebot_state::NoMemory;
 use command_words::DocumentCommand;
@@ -77,5 +78,6 @@ fn task_of_document(alloc: Global, command: DocumentCommand, parts: Parts) -> Re
         DocumentCommand::Rewind(place) => Ok(Task::Answered(answer_rewind(alloc, place, parts)?)),
         DocumentCommand::Rounds => Ok(Task::Answered(answer_rounds(alloc, parts)?)),
         DocumentCommand::Elect => Ok(Task::Answered(answer_elect(alloc, parts)?)),
+        DocumentCommand::Tickets => Ok(Task::Run(prepare_tickets(parts))),
     }
 }

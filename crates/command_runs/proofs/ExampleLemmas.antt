@@ -30,7 +30,7 @@ use Rattle.command_runs.specs.Run.{IsRunReport}
 use Rattle.command_runs.specs.Interleave.{at_round, IsScheduled}
 use Rattle.command_runs.specs.Replay.{DiffersAt, PlainDiffersAt, at_entry, at_end}
 use Rattle.command_runs.specs.Sample.{IsSampleText}
-use Rattle.command_runs.proofs.CountedRounds.{one_round}
+use Rattle.command_runs.proofs.CountedRounds.{goes_on, one_round, plain_round}
 use Rattle.command_runs.proofs.Measures.{nobody_is_measured, one_is_measured, two_are_measured, spread_is_connected}
 use Rattle.command_runs.specs.Examples.{start, second_spread, decides, second_list, second_expansion, other_old_value, one_expanded, two_caller_schedule, SmallCommands}
 
@@ -160,7 +160,10 @@ small_commands goods serials connected one = record {
   differs = no_step;
   other_shape = other_shape;
   one_round = one_round run;
+  goes_on = goes_on step;
+  nobody_waits = refl;
   plain_agrees = plain_run;
+  plain_round = plain_round run;
   plain_differs = no_plain_step;
   other_old = other_old;
   no_old = plain_run;

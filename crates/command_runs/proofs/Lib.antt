@@ -5,6 +5,7 @@ pub mod FedMeters
 pub mod Followed
 pub mod Interleavings
 pub mod Replays
+pub mod RoundsDecided
 pub mod SameConfigs
 pub mod RenewedTexts
 pub mod Reported

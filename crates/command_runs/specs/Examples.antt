@@ -1,6 +1,6 @@
 -- What the commands leave of two amoebots that stand side by side on a row of three nodes, where the program expands a contracted
 -- amoebot to the right.
-use Rattle.std.specs.Prelude.{◌≡◌, ℕ, List, [], ◌∷◌, ◌++◌, codes}
+use Rattle.std.specs.Prelude.{◌≡◌, ℕ, List, [], ◌∷◌, ◌++◌, codes, true, false}
 use Rattle.std.specs.declared.option.Option.TheVariants.{Some, None}
 use Rattle.amoebot_state.specs.declared.cell.CellName.TheVariants as name
 use Rattle.amoebot_state.specs.declared.cell.Cell.TheVariants as cell
@@ -12,6 +12,7 @@ use Rattle.amoebot_state.specs.Steps.{plain_entry}
 use Rattle.claim_core.specs.declared.marks.Mark.TheVariants as mark
 use Rattle.claim_core.specs.declared.report.Report.{Report}
 use Rattle.claim_core.specs.Turns.{CallerLists}
+use Rattle.round_meter.specs.Meters.{Metered, GoesOnBy, waiting_of}
 use Rattle.small_worlds.specs.Rows.{node, row_frame, row_with, bot_in_row, two_beside, expanded, one_refused}
 use Rattle.action_print.specs.Pins.{counting}
 use Rattle.command_runs.specs.Check.{check_text}
@@ -22,7 +23,7 @@ use Rattle.command_runs.specs.Interleave.{IsInterleaveReport}
 use Rattle.command_runs.specs.Renew.{renewed_text}
 use Rattle.command_runs.specs.Replay.{Agrees, DiffersAt, PlainAgrees, PlainDiffersAt, agrees_line, differs_line}
 use Rattle.command_runs.specs.Measure.{IsMeasureText}
-use Rattle.command_runs.specs.Rounds.{AgreesInRounds, rounds_text}
+use Rattle.command_runs.specs.Rounds.{AgreesInRounds, PlainAgreesInRounds, rounds_text}
 use Rattle.command_runs.specs.Sample.{IsSampleText}
 
 -- the shape at the start, and the one in which the second amoebot has expanded
@@ -98,6 +99,24 @@ one_alone = with_these row_frame (bot_in_row 1 1 ∷ [])
 abbrev pub two_apart : Config
 two_apart = row_with (bot_in_row 2 2)
 
+-- What a meter keeps at the start, and once the second amoebot has expanded. The first amoebot is not enabled before and behind that.
+-- The entry settles the second one, and so it ends the first round.
+abbrev pub meter_at_start : Metered
+meter_at_start = record {
+  world = start;
+  standings = record { enabled = false; settled_in = 0 } ∷ record { enabled = true; settled_in = 0 } ∷ [];
+  fed = 0;
+  rounds = 0;
+}
+
+abbrev pub meter_behind : Metered
+meter_behind = record {
+  world = second_spread;
+  standings = record { enabled = false; settled_in = 1 } ∷ record { enabled = false; settled_in = 1 } ∷ [];
+  fed = 1;
+  rounds = 1;
+}
+
 pub record SmallCommands : Type 0 where
   pub run : IsRunReport decides start second_list one_expanded
   -- a run of two lists may leave what an interleaving of them leaves
@@ -111,8 +130,12 @@ pub record SmallCommands : Type 0 where
   pub other_shape : DiffersAt decides start (second_expansion ∷ []) start 1
   -- the first amoebot rests, since the second one stands before it, and the second one acts: a round, after which both rest
   pub one_round : AgreesInRounds decides start (second_expansion ∷ []) second_spread 1 0
+  -- a meter counts that round, and nobody waits then
+  pub goes_on : GoesOnBy decides (plain_entry second_expansion) meter_at_start meter_behind
+  pub nobody_waits : waiting_of meter_behind ≡ 0
   -- the same entries without their old values
   pub plain_agrees : PlainAgrees decides start (plain_entry second_expansion ∷ []) second_spread
+  pub plain_round : PlainAgreesInRounds decides start (plain_entry second_expansion ∷ []) second_spread 1 0
   pub plain_differs : PlainDiffersAt decides start (plain_entry second_expansion ∷ plain_entry second_expansion ∷ []) second_spread 1
   -- with another old value the entry is no step; without it, that does not show
   pub other_old : DiffersAt decides start (other_old_value ∷ []) second_spread 0

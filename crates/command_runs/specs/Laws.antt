@@ -1,11 +1,11 @@
 -- What follows from the definitions alone.
-use Rattle.std.specs.Prelude.{◌≡◌, ◌<◌, ◌≤◌, ◌*◌, ◌⊎◌, ℕ, true, List, length}
+use Rattle.std.specs.Prelude.{◌≡◌, ◌<◌, ◌≤◌, ◌*◌, ◌⊎◌, ℕ, true, List, length, IsSome}
 use Rattle.std.specs.List.{All}
 use Rattle.tri_lattice.specs.Sets.{IsConnected}
 use Rattle.amoebot_state.specs.declared.verdict.Entry.{Entry}
 use Rattle.amoebot_state.specs.declared.verdict.PlainEntry.{PlainEntry}
 use Rattle.amoebot_state.specs.declared.verdict.Verdict.{Verdict}
-use Rattle.amoebot_state.specs.Configs.{Config, IsValid}
+use Rattle.amoebot_state.specs.Configs.{Config, IsValid, bot_at}
 use Rattle.amoebot_state.specs.Steps.{HasPatchedWorld}
 use Rattle.amoebot_state.specs.Occupied.{occupied}
 use Rattle.amoebot_state.specs.Zones.{Shown}
@@ -24,6 +24,7 @@ use Rattle.action_meaning.specs.Verdicts.{verdict_on, verdict_shown}
 use Rattle.command_runs.specs.Run.{IsRunText}
 use Rattle.command_runs.specs.Interleave.{IsScheduled, IsInterleaveText}
 use Rattle.command_runs.specs.Replay.{Agrees, DiffersAt, PlainAgrees, PlainDiffersAt}
+use Rattle.command_runs.specs.Rounds.{AgreesInRounds, PlainAgreesInRounds}
 use Rattle.command_runs.specs.Measure.{IsMeasureText}
 use Rattle.command_runs.specs.Sample.{IsSampleText}
 
@@ -85,6 +86,31 @@ pub record ReplayIsDecided : Type 0 where
       → HasPatchedWorld f
       → IsValid start
       → PlainAgrees f start entries final ⊎ ((place : ℕ) × PlainDiffersAt f start entries final place)
+
+-- Rounds are told in one way. Entries from a valid shape without gaps that agree have rounds that are told.
+-- So it is of entries with their old values, and of those without; and where rounds are told of those without, these agree
+pub record RoundsAreDecided : Type 0 where
+  pub one : (f : Shown → Verdict) (start final : Config) (entries : List Entry) (rounds waiting others still : ℕ)
+      → AgreesInRounds f start entries final rounds waiting
+      → AgreesInRounds f start entries final others still
+      → (rounds ≡ others) × (waiting ≡ still)
+  pub some : (f : Shown → Verdict) (start final : Config) (entries : List Entry)
+      → IsValid start
+      → ((b : ℕ) → b < length start.bots → IsSome (bot_at start b))
+      → Agrees f start entries final
+      → (rounds : ℕ) × (waiting : ℕ) × AgreesInRounds f start entries final rounds waiting
+  pub plain_agrees : (f : Shown → Verdict) (start final : Config) (entries : List PlainEntry) (rounds waiting : ℕ)
+      → PlainAgreesInRounds f start entries final rounds waiting
+      → PlainAgrees f start entries final
+  pub plain_one : (f : Shown → Verdict) (start final : Config) (entries : List PlainEntry) (rounds waiting others still : ℕ)
+      → PlainAgreesInRounds f start entries final rounds waiting
+      → PlainAgreesInRounds f start entries final others still
+      → (rounds ≡ others) × (waiting ≡ still)
+  pub plain_some : (f : Shown → Verdict) (start final : Config) (entries : List PlainEntry)
+      → IsValid start
+      → ((b : ℕ) → b < length start.bots → IsSome (bot_at start b))
+      → PlainAgrees f start entries final
+      → (rounds : ℕ) × (waiting : ℕ) × PlainAgreesInRounds f start entries final rounds waiting
 
 -- with the guard on and a connected shape at the start, the shape is connected in each world of the run
 abbrev pub StaysConnectedIn : Program → Config → List Entry → Type 0

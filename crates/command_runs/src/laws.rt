@@ -1,7 +1,7 @@
 //! What holds of the commands. The functions do nothing: their clauses are the laws.
 
 ghost use Rattle.command_runs.specs.Laws.{CanonMeansTheSame, GoodIsFew, GoodStaysConnected, InterleaveTextIsOne, MeasureTextIsOne};
-ghost use Rattle.command_runs.specs.Laws.{ReplayIsDecided, RunTextIsOne, SampleTextIsOne, ScheduleHasOneReport};
+ghost use Rattle.command_runs.specs.Laws.{ReplayIsDecided, RoundsAreDecided, RunTextIsOne, SampleTextIsOne, ScheduleHasOneReport};
 ghost use Rattle.command_runs.specs.Examples.{SmallCommands};
 
 use action_meaning::program_runs_stay_connected;
@@ -9,6 +9,7 @@ use amoebot_state::run_has_one_last;
 use claim_core::{
     one_list_is_serial, reached_is_good, serial_run_is_determined, state_has_one_report,
 };
+use round_meter::{each_run_is_rounded, rounds_are_unique};
 use serial_model::{
     first_no_plain_step_is_unique, first_no_step_is_unique, plain_run_has_only_steps,
     plain_run_is_run, plain_run_is_unique, plain_run_or_first, run_has_only_steps,
@@ -45,6 +46,17 @@ pub fn replay_is_decided()
     plain_run_is_run();
     plain_run_is_unique();
     plain_run_or_first();
+}
+
+/// The rounds of a run are told in one way, and entries from a valid shape without gaps that agree have rounds that are told. So it is of
+/// entries without old values too.
+pub fn rounds_are_decided()
+    ensures { RoundsAreDecided }
+{
+    rounds_are_unique();
+    each_run_is_rounded();
+    plain_run_is_run();
+    plain_run_is_unique();
 }
 
 /// A shape has one text of its measures.

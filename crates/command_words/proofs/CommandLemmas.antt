@@ -18,7 +18,7 @@ use Rattle.shipped_programs.specs.declared.shipped.Shipped.TheVariants.{Hexagon,
 use Rattle.command_words.specs.declared.command.Command.{Command}
 use Rattle.command_words.specs.declared.command.DocumentCommand.{DocumentCommand}
 use Rattle.command_words.specs.declared.command.Command.TheVariants.{Sample}
-use Rattle.command_words.specs.declared.command.DocumentCommand.TheVariants.{Run, Interleave, Replay, Check, Measure, Renew, Rewind, Rounds, Elect}
+use Rattle.command_words.specs.declared.command.DocumentCommand.TheVariants.{Run, Interleave, Replay, Check, Measure, Renew, Rewind, Rounds, Elect, Tickets}
 use Rattle.command_words.specs.Words.{AreWordsOf, command_of, is_one_word, of_two_words, numbered_by, rewind_to, shipped, show_in, word_of}
 use Rattle.command_words.specs.Syntax.{begins_with_dash, of_subcommand, words_syntax}
 use Rattle.command_words.proofs.WordsLemmas.{same_word, command_is_its_words}
@@ -40,14 +40,14 @@ pub data First (word : Text) : Type 0 where
 
 module _ (word : Text) (run : bytes_eq (codes "run") word ≡ false) (interleave : bytes_eq (codes "interleave") word ≡ false) (replay : bytes_eq (codes "replay") word ≡ false)
     (check : bytes_eq (codes "check") word ≡ false) (measure : bytes_eq (codes "measure") word ≡ false) (renew : bytes_eq (codes "renew") word ≡ false)
-    (rounds : bytes_eq (codes "rounds") word ≡ false) (elect : bytes_eq (codes "elect") word ≡ false)
+    (rounds : bytes_eq (codes "rounds") word ≡ false) (elect : bytes_eq (codes "elect") word ≡ false) (tickets : bytes_eq (codes "tickets") word ≡ false)
     (is_no_show : bytes_eq (codes "show") word ≡ false) (is_no_sample : bytes_eq (codes "sample") word ≡ false) (is_no_rewind : bytes_eq (codes "rewind") word ≡ false) where
   names_none : subcommand_met names idle word ≡ None
-  names_none = rw (run, interleave, replay, check, measure, renew, rounds, elect, is_no_show, is_no_sample, is_no_rewind) refl
+  names_none = rw (run, interleave, replay, check, measure, renew, rounds, elect, tickets, is_no_show, is_no_sample, is_no_rewind) refl
 
   begins_none : (words : List Text) → command_of (word ∷ words) ≡ None
   unfolding of_two_words
-  begins_none [] = rw (run, interleave, replay, check, measure, renew, rounds, elect) refl
+  begins_none [] = rw (run, interleave, replay, check, measure, renew, rounds, elect, tickets) refl
   begins_none (x ∷ []) = rw (is_no_show, is_no_sample, is_no_rewind) refl
   begins_none (x ∷ y ∷ words) = refl
 
@@ -68,13 +68,16 @@ first_of_words word = elim (cases_Bool (bytes_eq (codes "run") word)) [
               | inl e ↦ document Rounds refl (sym (same_word (codes "rounds") word e))
               | inr rounds ↦ elim (cases_Bool (bytes_eq (codes "elect") word)) [
                 | inl e ↦ document Elect refl (sym (same_word (codes "elect") word e))
-                | inr elect ↦ elim (cases_Bool (bytes_eq (codes "show") word)) [
-                  | inl e ↦ show (sym (same_word (codes "show") word e))
-                  | inr is_no_show ↦ elim (cases_Bool (bytes_eq (codes "sample") word)) [
-                    | inl e ↦ sample (sym (same_word (codes "sample") word e))
-                    | inr is_no_sample ↦ elim (cases_Bool (bytes_eq (codes "rewind") word)) [
-                      | inl e ↦ rewind (sym (same_word (codes "rewind") word e))
-                      | inr is_no_rewind ↦ other (names_none word run interleave replay check measure renew rounds elect is_no_show is_no_sample is_no_rewind) (begins_none word run interleave replay check measure renew rounds elect is_no_show is_no_sample is_no_rewind)
+                | inr elect ↦ elim (cases_Bool (bytes_eq (codes "tickets") word)) [
+                  | inl e ↦ document Tickets refl (sym (same_word (codes "tickets") word e))
+                  | inr tickets ↦ elim (cases_Bool (bytes_eq (codes "show") word)) [
+                    | inl e ↦ show (sym (same_word (codes "show") word e))
+                    | inr is_no_show ↦ elim (cases_Bool (bytes_eq (codes "sample") word)) [
+                      | inl e ↦ sample (sym (same_word (codes "sample") word e))
+                      | inr is_no_sample ↦ elim (cases_Bool (bytes_eq (codes "rewind") word)) [
+                        | inl e ↦ rewind (sym (same_word (codes "rewind") word e))
+                        | inr is_no_rewind ↦ other (names_none word run interleave replay check measure renew rounds elect tickets is_no_show is_no_sample is_no_rewind) (begins_none word run interleave replay check measure renew rounds elect tickets is_no_show is_no_sample is_no_rewind)
+                      ]
                     ]
                   ]
                 ]
@@ -105,6 +108,7 @@ document_in_words Renew one rest = fault_in (codes "renew") (leaf (codes "renew"
 document_in_words (Rewind place) one rest = absurd (false≢true one)
 document_in_words Rounds one rest = fault_in (codes "rounds") (leaf (codes "rounds") []) refl refl refl rest
 document_in_words Elect one rest = fault_in (codes "elect") (leaf (codes "elect") []) refl refl refl rest
+document_in_words Tickets one rest = fault_in (codes "tickets") (leaf (codes "tickets") []) refl refl refl rest
 
 document_read : (c : DocumentCommand) → is_one_word c ≡ true → of_subcommand (read (word_of c ∷ [])) ≡ command_of (word_of c ∷ [])
 unfolding clap_on_literals
@@ -117,6 +121,7 @@ document_read Renew one = refl
 document_read (Rewind place) one = absurd (false≢true one)
 document_read Rounds one = refl
 document_read Elect one = refl
+document_read Tickets one = refl
 
 document_well : (c : DocumentCommand) → is_one_word c ≡ true → fault (word_of c ∷ []) ≡ []
 unfolding clap_on_literals
@@ -129,6 +134,7 @@ document_well Renew one = refl
 document_well (Rewind place) one = absurd (false≢true one)
 document_well Rounds one = refl
 document_well Elect one = refl
+document_well Tickets one = refl
 
 document_alone : (c : DocumentCommand) → is_one_word c ≡ true → (x : Text) (words : List Text) → command_of (word_of c ∷ x ∷ words) ≡ None
 unfolding of_two_words
@@ -141,6 +147,7 @@ document_alone Renew one x [] = refl
 document_alone (Rewind place) one x [] = absurd (false≢true one)
 document_alone Rounds one x [] = refl
 document_alone Elect one x [] = refl
+document_alone Tickets one x [] = refl
 document_alone c one x (y ∷ words) = refl
 
 plain_first : (x : Text) (words : List Text) → list_any begins_with_dash (x ∷ words) ≡ false → begins_with_dash x ≡ false
@@ -220,6 +227,7 @@ words_plain c words (AreWordsOf.document Renew one) = refl
 words_plain c words (AreWordsOf.document (Rewind place) one) = refl
 words_plain c words (AreWordsOf.document Rounds one) = refl
 words_plain c words (AreWordsOf.document Elect one) = refl
+words_plain c words (AreWordsOf.document Tickets one) = refl
 words_plain c words (AreWordsOf.rewind digits place s) = rw (no_digit digits s.all) refl
 words_plain c words (AreWordsOf.show Hexagon) = refl
 words_plain c words (AreWordsOf.show Erosion) = refl

@@ -13,7 +13,7 @@ use Rattle.shipped_programs.specs.Shipped.{shipped_name}
 use Rattle.command_words.specs.declared.command.Command.{Command}
 use Rattle.command_words.specs.declared.command.Command.TheVariants.{Document, Show, Sample}
 use Rattle.command_words.specs.declared.command.DocumentCommand.{DocumentCommand}
-use Rattle.command_words.specs.declared.command.DocumentCommand.TheVariants.{Run, Interleave, Replay, Check, Measure, Renew, Rewind, Rounds, Elect}
+use Rattle.command_words.specs.declared.command.DocumentCommand.TheVariants.{Run, Interleave, Replay, Check, Measure, Renew, Rewind, Rounds, Elect, Tickets}
 use Rattle.command_words.specs.Words.{AreWordsOf, IsNumberWord, word_of, is_one_word, document_in, documents, show_in, shipped, is_number_word, number_of, numbered_by, rewind_to, of_two_words, command_of}
 use Rattle.command_words.specs.Laws.{CommandIsItsWords, SmallWords}
 use Rattle.command_words.proofs.NumberWords.{decides_number, is_number, is_no_number}
@@ -94,6 +94,7 @@ own_word Renew one = refl
 own_word (Rewind place) one = absurd (false≢true one)
 own_word Rounds one = refl
 own_word Elect one = refl
+own_word Tickets one = refl
 
 pub own_name : (program : Shipped) → show_in shipped (shipped_name program) ≡ Some (Show program)
 own_name Hexagon = refl
@@ -134,4 +135,4 @@ by_number command (Some digits) = refl
 
 pub small_words : SmallWords
 unfolding of_two_words number_of is_number_word
-small_words = record { run = refl; show = refl; sample = refl; greatest = refl; above = refl; eleven = refl; none = refl; signed = refl; rewind = refl; no_place = refl; nothing = refl; further = refl; other = refl }
+small_words = record { run = refl; show = refl; sample = refl; greatest = refl; above = refl; eleven = refl; none = refl; signed = refl; tickets = refl; rewind = refl; no_place = refl; nothing = refl; further = refl; other = refl; one_ticket = refl }

@@ -4,7 +4,7 @@ use Rattle.std.specs.declared.option.Option.TheVariants.{Some, None}
 use Rattle.shipped_programs.specs.declared.shipped.Shipped.TheVariants.{Line}
 use Rattle.command_words.specs.declared.command.Command.{Command}
 use Rattle.command_words.specs.declared.command.Command.TheVariants.{Document, Show, Sample}
-use Rattle.command_words.specs.declared.command.DocumentCommand.TheVariants.{Run, Rewind}
+use Rattle.command_words.specs.declared.command.DocumentCommand.TheVariants.{Run, Rewind, Tickets}
 use Rattle.command_words.specs.Words.{AreWordsOf, command_of}
 
 -- the words are a command exactly where they are its words
@@ -21,8 +21,10 @@ pub record SmallWords : Type 0 where
   pub eleven : command_of (codes "sample" ∷ codes "00000000001" ∷ []) ≡ None
   pub none : command_of (codes "sample" ∷ [] ∷ []) ≡ None
   pub signed : command_of (codes "sample" ∷ codes "+1" ∷ []) ≡ None
+  pub tickets : command_of (codes "tickets" ∷ []) ≡ Some (Document Tickets)
   pub rewind : command_of (codes "rewind" ∷ codes "0000000007" ∷ []) ≡ Some (Document (Rewind 7))
   pub no_place : command_of (codes "rewind" ∷ []) ≡ None
   pub nothing : command_of [] ≡ None
   pub further : command_of (codes "run" ∷ codes "now" ∷ []) ≡ None
   pub other : command_of (codes "show" ∷ codes "Line" ∷ []) ≡ None
+  pub one_ticket : command_of (codes "ticket" ∷ []) ≡ None

@@ -13,7 +13,7 @@ use Rattle.shipped_programs.specs.Shipped.{shipped_name}
 use Rattle.command_words.specs.declared.command.Command.{Command}
 use Rattle.command_words.specs.declared.command.Command.TheVariants.{Document, Show, Sample}
 use Rattle.command_words.specs.declared.command.DocumentCommand.{DocumentCommand}
-use Rattle.command_words.specs.declared.command.DocumentCommand.TheVariants.{Run, Interleave, Replay, Check, Measure, Renew, Rewind, Rounds, Elect}
+use Rattle.command_words.specs.declared.command.DocumentCommand.TheVariants.{Run, Interleave, Replay, Check, Measure, Renew, Rewind, Rounds, Elect, Tickets}
 
 -- ---- when words are those of a command
 
@@ -28,6 +28,7 @@ word_of Renew = codes "renew"
 word_of (Rewind place) = codes "rewind"
 word_of Rounds = codes "rounds"
 word_of Elect = codes "elect"
+word_of Tickets = codes "tickets"
 
 -- it is the command's only word
 abbrev pub is_one_word : DocumentCommand → Bool
@@ -40,6 +41,7 @@ is_one_word Renew = true
 is_one_word (Rewind place) = false
 is_one_word Rounds = true
 is_one_word Elect = true
+is_one_word Tickets = true
 
 -- a word that is a number: one digit to ten, which write one below 2^32
 pub record IsNumberWord (digits : List ℕ) (number : ℕ) : Type 0 where
@@ -64,7 +66,7 @@ document_in [] word = None
 document_in (c ∷ cs) word = if bytes_eq (word_of c) word then Some (Document c) else document_in cs word
 
 abbrev pub documents : List DocumentCommand
-documents = Run ∷ Interleave ∷ Replay ∷ Check ∷ Measure ∷ Renew ∷ Rounds ∷ Elect ∷ []
+documents = Run ∷ Interleave ∷ Replay ∷ Check ∷ Measure ∷ Renew ∷ Rounds ∷ Elect ∷ Tickets ∷ []
 
 -- the first of some programs whose name this is
 abbrev pub show_in : List Shipped → List ℕ → Option Command

@@ -45,6 +45,8 @@ pub enum DocumentCommand {
     Rounds,
     /// Counts the candidates at the end of an election, and tells the leader.
     Elect,
+    /// Runs its lists, and no commit waits for another.
+    Tickets,
 }
 
 /// The most digits of a number.
@@ -140,6 +142,7 @@ fn of_word(word: &str) -> Option<Command>
         "renew" => DocumentCommand::Renew,
         "rounds" => DocumentCommand::Rounds,
         "elect" => DocumentCommand::Elect,
+        "tickets" => DocumentCommand::Tickets,
         _ => return None,
     };
     Some(Command::Document(command))

@@ -21,6 +21,7 @@ pub(crate) fn words_syntax<'a>(alloc: Global) -> Result<Command<'a>, AllocError>
         .subcommand(Command::new(alloc, "renew"))?
         .subcommand(Command::new(alloc, "rounds"))?
         .subcommand(Command::new(alloc, "elect"))?
+        .subcommand(Command::new(alloc, "tickets"))?
         .subcommand(with_argument(alloc, "show", "NAME")?)?
         .subcommand(with_argument(alloc, "sample", "NUMBER")?)?
         .subcommand(with_argument(alloc, "rewind", "NUMBER")?)

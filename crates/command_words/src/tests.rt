@@ -15,7 +15,7 @@ fn judged(alloc: Global, texts: &[&str]) -> Result<Option<Command>, NoMemory> {
 
 #[test]
 fn each_command_has_its_words(rt: HostRuntime) -> Result<(), Fail> {
-    let commands: [(&[&str], Command); 19] = [
+    let commands: [(&[&str], Command); 20] = [
         (&["run"], Command::Document(DocumentCommand::Run)),
         (
             &["interleave"],
@@ -27,6 +27,7 @@ fn each_command_has_its_words(rt: HostRuntime) -> Result<(), Fail> {
         (&["renew"], Command::Document(DocumentCommand::Renew)),
         (&["rounds"], Command::Document(DocumentCommand::Rounds)),
         (&["elect"], Command::Document(DocumentCommand::Elect)),
+        (&["tickets"], Command::Document(DocumentCommand::Tickets)),
         (
             &["rewind", "0"],
             Command::Document(DocumentCommand::Rewind(0)),
@@ -58,7 +59,7 @@ fn each_command_has_its_words(rt: HostRuntime) -> Result<(), Fail> {
 }
 
 /// No command has these words.
-const NONE: [&[&str]; 65] = [
+const NONE: [&[&str]; 69] = [
     &[],
     &[""],
     &["", "run"],
@@ -92,6 +93,10 @@ const NONE: [&[&str]; 65] = [
     &["elect", "line"],
     &["Elect"],
     &["election"],
+    &["tickets", "1"],
+    &["tickets", "run"],
+    &["Tickets"],
+    &["ticket"],
     &["rewind"],
     &["rewind", ""],
     &["rewind", "-1"],

@@ -18,7 +18,7 @@ use Rattle.amoebot_state.specs.declared.cell.CellName.{CellName}
 use Rattle.amoebot_state.specs.declared.cell.CellName.TheVariants as name
 use Rattle.amoebot_state.specs.declared.cell.Cell.{Cell}
 use Rattle.amoebot_state.specs.Ports.{own_nodes, is_own, is_contracted, ports, behind, end_node, global}
-use Rattle.amoebot_state.specs.Pairs.{Pairs, cell_of, cell_value}
+use Rattle.amoebot_state.specs.Pairs.{Pairs, Triples, cell_of, cell_value, plain_patch}
 use Rattle.amoebot_state.specs.Configs.{Config, IsValid, bot_at, bot_of, blank, covers, occupant, value}
 use Rattle.amoebot_state.specs.Zones.{shown, shown_with, zone, zone_nodes, others}
 use Rattle.amoebot_state.specs.Known.{IsFront, next_cell}
@@ -31,14 +31,14 @@ use Rattle.amoebot_state.proofs.Occupants.{occupant_at, occupant_covers, covers_
 use Rattle.amoebot_state.proofs.Once.{same_body}
 use Rattle.amoebot_state.proofs.Options.{there_is}
 use Rattle.amoebot_state.proofs.Patched.{All-at}
-use Rattle.amoebot_state.proofs.Zones.{zone_is, spot_node, others_occupy, zone_inside}
-use Rattle.round_meter.specs.Asking.{IsInReach, cells_among, closed_ring, nodes_of_cell, ids_on, ids_round, ids_near, ids_asked}
+use Rattle.amoebot_state.proofs.Zones.{node_eq_equiv, zone_is, spot_node, others_occupy, zone_inside}
+use Rattle.round_meter.specs.Asking.{IsInReach, cells_among, closed_ring, nodes_of_cell, nodes_asked, ids_on, ids_round, ids_asked}
 
 -- ---- what a patch keeps
 
 -- a cell that a patch does not change holds what it held
-cell_kept : (c d : Config) (ps : Pairs) (n : CellName) → IsPatched c ps d → (Has n (cells_among ps) → ⊥) → value d n ≡ value c n
-cell_kept c d ps n patched lacks = patched.kept n (All-from_Has (λ (p : CellName × Cell). cell_of p ≢ n) ps (λ p has e. lacks (subst (λ k. Has k (cells_among ps)) e (Has-map cell_of has))))
+cell_kept : (c d : Config) (ps : Pairs) (n : CellName) → IsPatched c ps d → (Has n (map cell_of ps) → ⊥) → value d n ≡ value c n
+cell_kept c d ps n patched lacks = patched.kept n (All-from_Has (λ (p : CellName × Cell). cell_of p ≢ n) ps (λ p has e. lacks (subst (λ k. Has k (map cell_of ps)) e (Has-map cell_of has))))
 
 -- all but the amoebots, their number, and which ids there are
 rest_kept : (c d : Config) (ps : Pairs) → IsPatched c ps d → d ≡ record c { bots = d.bots }
@@ -51,7 +51,7 @@ there_still : (c d : Config) (ps : Pairs) (b : ℕ) → IsPatched c ps d → IsS
 there_still c d ps b patched there = patched.same.ids b ∙ there
 
 -- an amoebot is shown the same where no cell of its zone is changed
-pub untouched : (c d : Config) (ps : Pairs) (b : ℕ) → IsPatched c ps d → IsSome (bot_at c b) → ((k : CellName) → Has k (zone c b) → Has k (cells_among ps) → ⊥) → shown d b ≡ shown c b
+pub untouched : (c d : Config) (ps : Pairs) (b : ℕ) → IsPatched c ps d → IsSome (bot_at c b) → ((k : CellName) → Has k (zone c b) → Has k (map cell_of ps) → ⊥) → shown d b ≡ shown c b
 untouched c d ps b patched there apart =
     let cells = (shown c b).cells in
     let area : d.area ≡ c.area = ap (λ (e : Config). e.area) (rest_kept c d ps patched) in
@@ -140,44 +140,57 @@ module _ (c : Config) (b : ℕ) (own : Bot) (valid : IsValid c) (at : bot_at c b
 
 -- ---- those that are asked
 
-asked_has : (c : Config) (ps : Pairs) (b : ℕ) → Has b (ids_near c (cells_among ps)) → Has b (ids_asked c ps)
-asked_has c ps b has = subst (Has b) (sym (taken_from_none nat_eq_equiv (ids_near c (cells_among ps)))) (Has-distinct nat_eq eqb-true (ids_near c (cells_among ps)) has)
+-- the cells that a patch changes are those that it gives new values
+names : (patch : Triples) → map cell_of (plain_patch patch) ≡ cells_among patch
+names [] = refl
+names (t ∷ ts) = ap (λ cells. t.0 ∷ cells) (names ts)
+
+flat_map_has : {A B : Type 0} (f : A → List B) {y : B} (xs : List A) → Has y (flat_map f xs) → (x : A) × Has x xs × Has y (f x)
+flat_map_has f [] has = absurd (not_in_none has)
+flat_map_has f (x ∷ xs) has = elim (Has-append_cases (f x) has) [
+  | inl first ↦ (x, here, first)
+  | inr rest ↦ let found = flat_map_has f xs rest in (found.0, later found.1, found.2)
+]
+
+-- an amoebot on or round a node of a changed cell is asked
+asked_has : (c : Config) (cells : List CellName) (b : ℕ) (k : CellName) → Has k cells → Has b (ids_round c (nodes_of_cell c k)) → Has b (ids_asked c cells)
+asked_has c cells b k changed has =
+    let all = flat_map (nodes_of_cell c) cells in
+    let by = flat_map_has (λ v. ids_on c (closed_ring v)) (nodes_of_cell c k) has in
+    let node : Has by.0 (nodes_asked c cells) = subst (Has by.0) (sym (taken_from_none node_eq_equiv all)) (Has-distinct node_eq node_eq-true all (Has-flat_map (nodes_of_cell c) cells changed by.1)) in
+    let near : Has b (ids_round c (nodes_asked c cells)) = Has-flat_map (λ v. ids_on c (closed_ring v)) (nodes_asked c cells) node by.2 in
+    subst (Has b) (sym (taken_from_none nat_eq_equiv (ids_round c (nodes_asked c cells)))) (Has-distinct nat_eq eqb-true (ids_round c (nodes_asked c cells)) near)
 
 -- an amoebot that is not asked again is shown the same
-pub unasked_is_shown : (c d : Config) (ps : Pairs) (b : ℕ) → IsValid c → IsPatched c ps d → IsSome (bot_at c b) → (Has b (ids_asked c ps) → ⊥) → shown d b ≡ shown c b
-unasked_is_shown c d ps b valid patched there lacks =
+pub unasked_is_shown : (c d : Config) (patch : Triples) (b : ℕ) → IsValid c → IsPatched c (plain_patch patch) d → IsSome (bot_at c b) → (Has b (ids_asked c (cells_among patch)) → ⊥) → shown d b ≡ shown c b
+unasked_is_shown c d patch b valid patched there lacks =
     let own = there_is (bot_at c b) there in
-    untouched c d ps b patched there (λ k has changed. lacks (asked_has c ps b (Has-flat_map (λ n. ids_round c (nodes_of_cell c n)) (cells_among ps) changed (cell_round c b own.0 valid own.1 k has))))
+    untouched c d (plain_patch patch) b patched there (λ k has changed. lacks (asked_has c (cells_among patch) b k (subst (Has k) (names patch) changed) (cell_round c b own.0 valid own.1 k has)))
 
 -- each that is asked is an amoebot
-near_there : (c : Config) (cells : List CellName) (b : ℕ) → Has b (ids_near c cells) → b < length c.bots
-near_there c cells b has =
-    let cell = flat_map_has (λ n. ids_round c (nodes_of_cell c n)) cells has in
-    let node = flat_map_has (λ v. ids_on c (closed_ring v)) (nodes_of_cell c cell.0) cell.1 in
-    let found = filter_map_has (occupant c) (closed_ring node.0) node.1 in
+near_there : (c : Config) (vs : List Node) (b : ℕ) → Has b (ids_round c vs) → b < length c.bots
+near_there c vs b has =
+    let node = flat_map_has (λ v. ids_on c (closed_ring v)) vs has in
+    let found = filter_map_has (occupant c) (closed_ring node.0) node.2 in
     covers_below c b found.0 (occupant_covers c found.0 b found.2)
-  where
-    flat_map_has : {A B : Type 0} (f : A → List B) {y : B} (xs : List A) → Has y (flat_map f xs) → (x : A) × Has y (f x)
-    flat_map_has f [] h = absurd (not_in_none h)
-    flat_map_has f (x ∷ xs) h = elim (Has-append_cases (f x) h) [ inl first ↦ (x, first) | inr rest ↦ flat_map_has f xs rest ]
 
-pub asked_there : (c : Config) (ps : Pairs) → All (λ i. i < length c.bots) (ids_asked c ps)
-asked_there c ps = All-from_Has (λ i. i < length c.bots) (ids_asked c ps) (λ i has. near_there c (cells_among ps) i (distinct_has nat_eq (ids_near c (cells_among ps)) (subst (Has i) (taken_from_none nat_eq_equiv (ids_near c (cells_among ps))) has)))
+pub asked_there : (c : Config) (cells : List CellName) → All (λ i. i < length c.bots) (ids_asked c cells)
+asked_there c cells = All-from_Has (λ i. i < length c.bots) (ids_asked c cells) (λ i has. near_there c (nodes_asked c cells) i (distinct_has nat_eq (ids_round c (nodes_asked c cells)) (subst (Has i) (taken_from_none nat_eq_equiv (ids_round c (nodes_asked c cells))) has)))
 
 -- also in what the patch leads to
-pub asked_still : (c d : Config) (ps : Pairs) (ids : List ℕ) → IsPatched c ps d → ids ≡ ids_asked c ps → All (λ i. i < length d.bots) ids
-asked_still c d ps ids patched is k j lt =
-    let below = asked_there c ps k j (subst (λ js. k < length js) is lt) in
+pub asked_still : (c d : Config) (patch : Triples) (ids : List ℕ) → IsPatched c (plain_patch patch) d → ids ≡ ids_asked c (cells_among patch) → All (λ i. i < length d.bots) ids
+asked_still c d patch ids patched is k j lt =
+    let below = asked_there c (cells_among patch) k j (subst (λ js. k < length js) is lt) in
     let same = ap (λ js. get_or js k j) is in
-    omega (arith, below, same, number_kept c d ps patched)
+    omega (arith, below, same, number_kept c d (plain_patch patch) patched)
 
 -- the cells that a patch changes are in reach, if they are cells of a zone
-pub zone_in_reach : (c : Config) (b : ℕ) (ps : Pairs) → IsValid c → IsSome (bot_at c b) → All (λ (p : CellName × Cell). Contains (zone c b) (cell_of p)) ps → All (IsInReach c) (cells_among ps)
-zone_in_reach c b ps valid there within = All-from_Has (IsInReach c) (cells_among ps) (λ k has.
-    let from = map_has cell_of ps has in
-    let has_cell = Has-from_Contains (zone c b) (All-at (λ (p : CellName × Cell). Contains (zone c b) (cell_of p)) ps within from.1) in
+pub zone_in_reach : (c : Config) (b : ℕ) (patch : Triples) → IsValid c → IsSome (bot_at c b) → All (λ (p : CellName × Cell). Contains (zone c b) (cell_of p)) (plain_patch patch) → All (IsInReach c) (cells_among patch)
+zone_in_reach c b patch valid there within = subst (All (IsInReach c)) (names patch) (All-from_Has (IsInReach c) (map cell_of (plain_patch patch)) (λ k has.
+    let from = map_has cell_of (plain_patch patch) has in
+    let has_cell = Has-from_Contains (zone c b) (All-at (λ (p : CellName × Cell). Contains (zone c b) (cell_of p)) (plain_patch patch) within from.1) in
     let own = there_is (bot_at c b) there in
-    reach own.0 own.1 k (subst (λ n. Has n (zone c b)) (sym from.2) has_cell))
+    reach own.0 own.1 k (subst (λ n. Has n (zone c b)) (sym from.2) has_cell)))
   where
     reach : (own : Bot) → bot_at c b ≡ Some own → (k : CellName) → Has k (zone c b) → IsInReach c k
     reach own at (name.Spot v) has = near_in c.area v valid.area (zone_inside c b own v valid at has)

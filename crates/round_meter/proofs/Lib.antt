@@ -6,3 +6,4 @@ pub mod AskingLemmas
 pub mod NearLemmas
 pub mod TallyLemmas
 pub mod MeterLemmas
+pub mod TellingLemmas

@@ -1,24 +1,27 @@
 -- A meter that stands for a run stands for it with one more entry, and tells its rounds.
 use Rattle.std.proofs.Common.{◌≡◌, ◌∙◌, ◌<◌, ◌≤◌, ◌+◌, ◌⊎◌, ◌&&◌, ◌++◌, ℕ, zero, suc, List, [], ◌∷◌, length, map, Bool, true, false, not, cond, nat_eq, inl, inr, ap, sym, subst, refl, arith, append_assoc, append-nil}
-use Rattle.std.specs.Prelude.{Decides, slice_set, IsSome}
-use Rattle.std.specs.List.{count_by, fold, range_with_len}
+use Rattle.std.specs.Prelude.{Decides, IfErr, IsSome, Result}
+use Rattle.std.specs.List.{count_by, range_with_len}
 use Rattle.std.proofs.lemmas.Bool.{false≢true, cases_Bool, cases_eq, not-true, eqb-true, eqb-false, eq-eqb, cond-true, cond-false}
 use Rattle.std.proofs.lemmas.List.{length-append, length-map, get_or-map}
 use Rattle.std.proofs.lemmas.List.Elements.{All-get_or, All-map, All-weaker}
 use Rattle.std.proofs.lemmas.List.FromFn.{get_or-map-range_with_len, length-range_with_len}
 use Rattle.std.proofs.lemmas.List.Sums.{sum_by-cons}
+use Rattle.std.proofs.lemmas.Result.{IfErr-weaker}
 use Rattle.amoebot_state.specs.declared.verdict.Entry.{Entry}
 use Rattle.amoebot_state.specs.declared.verdict.Verdict.{Verdict}
 use Rattle.amoebot_state.specs.Configs.{Config, IsValid, bot_at}
-use Rattle.amoebot_state.specs.Zones.{Shown}
-use Rattle.amoebot_state.specs.Steps.{Step, Run}
+use Rattle.amoebot_state.specs.declared.verdict.Verdict.TheVariants as verdict
+use Rattle.amoebot_state.specs.Pairs.{Triples, plain_patch}
+use Rattle.amoebot_state.specs.Zones.{Shown, shown}
+use Rattle.amoebot_state.specs.Steps.{Step, Run, change_of}
 use Rattle.amoebot_state.proofs.Members.{Has, here, later}
 use Rattle.amoebot_state.proofs.Runs.{run_push}
 use Rattle.round_meter.specs.declared.standing.Standing.{Standing}
 use Rattle.round_meter.specs.Rounds.{IsSettled, AllSettled, RoundsTo, no_round, one_more, enabled_in, is_change}
-use Rattle.round_meter.specs.Meters.{Metered, IsMetered, AreStamped, unsettled, standing_of, this_round, waiting_of, waits_in}
-use Rattle.round_meter.specs.Asking.{after_entry, asked_again, ids_asked, new_pairs, next_standings, next_metered, first_standing, first_standings, first_metered}
-use Rattle.round_meter.specs.Tallies.{Tallied, IsInStep, metered, waiting_in, with_round_ended}
+use Rattle.round_meter.specs.Meters.{Metered, MeterOf, IsMetered, GoesOnWith, StandsForRun, AreStamped, unsettled, standing_of, this_round, waiting_of, waits_in}
+use Rattle.round_meter.specs.Asking.{IsEntered, asked_each, cells_among, ids_asked, next_standings, next_metered, standings_after_entry, first_standing, first_standings, first_metered}
+use Rattle.round_meter.specs.Tallies.{Tallied, IsInStep, metered, waiting_in, with_round_ended, with_standings}
 use Rattle.round_meter.specs.Laws.{EachRunIsRounded, MeterTellsRounds}
 use Rattle.round_meter.proofs.AskingLemmas.{number_kept, unasked_is_shown}
 use Rattle.round_meter.proofs.SettledLemmas.{settled_next, next_settled, settled_here, here_settled}
@@ -194,7 +197,7 @@ module _ (f : Shown → Verdict) (first : Config) (es : List Entry) (m : Metered
             );
       }
 
-  pub metered_next : IsMetered f first (es ++ e ∷ []) (next_metered f m e next ids)
+  pub metered_next : IsMetered f first (es ++ e ∷ []) (next_metered f m e.bot next ids)
   unfolding mid
   metered_next =
       let tally : Tallied = record { standings = next_standings f next (this_round m) e.bot ids m.standings; rounds = m.rounds } in
@@ -204,49 +207,62 @@ module _ (f : Shown → Verdict) (first : Config) (es : List Entry) (m : Metered
         | inr some ↦ subst P (sym (cond-false (nat_eq (waiting_in tally) 0) (record tally { rounds = m.rounds + 1 }) tally some)) (goes_on (eqb-false (waiting_in tally) 0 some))
       ]
 
--- ---- a step, once those on and round the nodes of its changed cells were asked again
+-- ---- the patch of an entry, once those on and round the nodes of its changed cells were asked again
 
--- the parts of a meter after a step that is taken of its parts before it
-pub record IsStepped (f : Shown → Verdict) (world : Config) (tally : Tallied) (e : Entry) (next : Config) (stepped : Tallied) : Type 0 where
-  pub valid : IsValid world
-  pub no_gaps : (b : ℕ) → b < length world.bots → IsSome (bot_at world b)
-  pub size : length tally.standings ≡ length world.bots
-  pub step : Step f world e next
-  pub ended : stepped ≡ with_round_ended (record { standings = next_standings f next (tally.rounds + 1) e.bot (ids_asked world (new_pairs e.patch)) tally.standings; rounds = tally.rounds })
+-- a tally, as its parts are taken one after another
+pub entered : (f : Shown → Verdict) (next : Config) (tally own asked ended : Tallied) (bot : ℕ) (ids all : List ℕ)
+    → own ≡ with_standings tally (standings_after_entry (tally.rounds + 1) tally.standings bot)
+    → asked ≡ with_standings own (asked_each f next (own.rounds + 1) own.standings ids)
+    → ids ≡ all → ended ≡ with_round_ended asked → ended ≡ with_round_ended (record { standings = next_standings f next (tally.rounds + 1) bot all tally.standings; rounds = tally.rounds })
+entered f next tally own asked ended bot ids all first then these last =
+    let ask : Tallied → List ℕ → Tallied = λ t is. with_standings t (asked_each f next (t.rounds + 1) t.standings is) in
+    let entry : Tallied = with_standings tally (standings_after_entry (tally.rounds + 1) tally.standings bot) in
+    last ∙ ap with_round_ended (then ∙ ap (λ t. ask t ids) first ∙ ap (ask entry) these)
 
--- such a step, as its parts are taken one after another
-pub is_stepped : (f : Shown → Verdict) (world next : Config) (tally entered asked stepped : Tallied) (e : Entry) (ids : List ℕ)
-    → IsValid world → ((b : ℕ) → b < length world.bots → IsSome (bot_at world b)) → length tally.standings ≡ length world.bots → Step f world e next
-    → entered ≡ record tally { standings = slice_set tally.standings e.bot (after_entry (tally.rounds + 1) (standing_of tally.standings e.bot)) }
-    → asked ≡ record entered { standings = fold (asked_again f next (entered.rounds + 1)) entered.standings ids }
-    → ids ≡ ids_asked world (new_pairs e.patch) → stepped ≡ with_round_ended asked → IsStepped f world tally e next stepped
-is_stepped f world next tally entered asked stepped e ids valid no_gaps size step first then these last =
-    let ask : Tallied → List ℕ → Tallied = λ t is. record { standings = fold (asked_again f next (t.rounds + 1)) t.standings is; rounds = t.rounds } in
-    let own : Tallied = record tally { standings = slice_set tally.standings e.bot (after_entry (tally.rounds + 1) (standing_of tally.standings e.bot)) } in
+-- it goes on with each entry that has this patch
+pub goes_on_with : (f : Shown → Verdict) (e : Entry) (old new : Metered) → IsEntered f old e.bot e.patch new → e.bot < length old.world.bots → f (shown old.world e.bot) ≡ verdict.Change (change_of e) → StandsForRun f old → GoesOnWith f e old new
+goes_on_with f e old new by below decided stands =
+    let step : Step f old.world e new.world = record { there = by.no_gaps e.bot below; decided = decided; patched = by.patched } in
     record {
-      valid = valid;
-      no_gaps = no_gaps;
-      size = size;
+      stands = stands;
       step = step;
-      ended = last ∙ ap with_round_ended (then ∙ ap (λ t. ask t ids) first ∙ ap (ask own) these);
+      metered = λ first es is.
+          let ids = ids_asked old.world (cells_among e.patch) in
+          let next : IsMetered f first (es ++ e ∷ []) (next_metered f old e.bot new.world ids) = metered_next f first es old is e new.world step ids (λ b lt lacks.
+          let there = by.no_gaps b (omega (arith, lt, by.size, is.size)) in
+          ap (λ s. is_change (f s)) (unasked_is_shown old.world new.world e.patch b by.valid by.patched there lacks)) in
+          subst (IsMetered f first (es ++ e ∷ [])) (sym by.next) next;
     }
 
-pub metered_step : (f : Shown → Verdict) (first world next : Config) (es : List Entry) (tally stepped : Tallied) (fed : ℕ) (e : Entry)
-    → IsStepped f world tally e next stepped → IsMetered f first es (metered world tally fed) → IsMetered f first (es ++ e ∷ []) (metered next stepped (fed + 1))
-metered_step f first world next es tally stepped fed e by is =
-    subst (λ t. IsMetered f first (es ++ e ∷ []) (metered next t (fed + 1))) (sym by.ended) (metered_next f first es (metered world tally fed) is e next by.step (ids_asked world (new_pairs e.patch)) (λ b lt lacks.
-    let there = by.no_gaps b (omega (arith, lt, by.size, is.size)) in
-    ap (λ s. is_change (f s)) (unasked_is_shown world next (new_pairs e.patch) b by.valid by.step.patched there lacks)))
+-- and stands for a run then
+pub still_stands : (f : Shown → Verdict) (e : Entry) (old new : Metered) → GoesOnWith f e old new → StandsForRun f new
+still_stands f e old new on = let run = on.stands in (run.0, run.1 ++ e ∷ [], on.metered run.0 run.1 run.2)
+
+-- where an entry differs, the meter is unchanged, if all that it keeps beside its decider is
+pub meter_differs : {A D E : Type 0} (r : Result A E) (place : E → ℕ) (N : D → Metered → Type 0) (d : D) (old new : Metered) (m : MeterOf D) → record { decider = d; state = old } ≡ m
+    → IfErr r (λ e. (place e ≡ old.fed) × N d old × (new ≡ old)) → IfErr r (λ e. (place e ≡ m.state.fed) × N m.decider m.state × (record { decider = d; state = new } ≡ m))
+meter_differs {A} {D} {E} r place N d old new m is differs =
+    let of : Metered → MeterOf D = λ s. record { decider = d; state = s } in
+    let Told : MeterOf D → E → Type 0 = λ n e. (place e ≡ n.state.fed) × N n.decider n.state × (of new ≡ n) in
+    subst (λ n. IfErr r (Told n)) is (IfErr-weaker r (λ e. (place e ≡ old.fed) × N d old × (new ≡ old)) (Told (of old)) (λ e by. (by.0, by.1, ap of by.2)) differs)
+
+-- what an entry leaves of the sizes
+pub entered_fed : (f : Shown → Verdict) (old new : Metered) (bot : ℕ) (patch : Triples) → IsEntered f old bot patch new → new.fed ≡ old.fed + 1
+entered_fed f old new bot patch by = ap (λ (m : Metered). m.fed) by.next
+
+pub entered_size : (f : Shown → Verdict) (old new : Metered) (bot : ℕ) (patch : Triples) → IsEntered f old bot patch new → length new.world.bots ≡ length old.world.bots
+entered_size f old new bot patch by = number_kept old.world new.world (plain_patch patch) by.patched
 
 -- the parts are in step
-pub stepped_in_step : (f : Shown → Verdict) (world next : Config) (tally stepped : Tallied) (fed : ℕ) (e : Entry) → IsStepped f world tally e next stepped → tally.rounds ≤ fed → IsInStep next stepped (fed + 1)
-stepped_in_step f world next tally stepped fed e by le =
-    let mid : Tallied = record { standings = next_standings f next (tally.rounds + 1) e.bot (ids_asked world (new_pairs e.patch)) tally.standings; rounds = tally.rounds } in
+pub entered_in_step : (f : Shown → Verdict) (next : Config) (tally ended : Tallied) (fed bots bot : ℕ) (ids : List ℕ) → length tally.standings ≡ bots → length next.bots ≡ bots → tally.rounds ≤ fed
+    → ended ≡ with_round_ended (record { standings = next_standings f next (tally.rounds + 1) bot ids tally.standings; rounds = tally.rounds }) → IsInStep next ended (fed + 1)
+entered_in_step f next tally ended fed bots bot ids size kept le is =
+    let mid : Tallied = record { standings = next_standings f next (tally.rounds + 1) bot ids tally.standings; rounds = tally.rounds } in
     let same = size_ended (nat_eq (waiting_in mid) 0) mid in
-    let at = length-next f next (tally.rounds + 1) e.bot (ids_asked world (new_pairs e.patch)) tally.standings in
+    let at = length-next f next (tally.rounds + 1) bot ids tally.standings in
     record {
-      size = ap (λ (t : Tallied). length t.standings) by.ended ∙ same.0 ∙ at ∙ by.size ∙ sym (number_kept world next (new_pairs e.patch) by.step.patched);
-      ended = (let rounds = ap (λ (t : Tallied). t.rounds) by.ended in let most = same.1 in omega (arith, rounds, most, le));
+      size = ap (λ (t : Tallied). length t.standings) is ∙ same.0 ∙ at ∙ size ∙ sym kept;
+      ended = (let rounds = ap (λ (t : Tallied). t.rounds) is in let most = same.1 in omega (arith, rounds, most, le));
     }
   where
     size_ended : (b : Bool) (t : Tallied) → let u : Tallied = cond b (record t { rounds = t.rounds + 1 }) t in (length u.standings ≡ length t.standings) × (u.rounds ≤ t.rounds + 1)
@@ -272,8 +288,8 @@ metered_run : (f : Shown → Verdict) (first last : Config) (es more : List Entr
 metered_run f first last es [] m is steps = (m, subst (λ xs. IsMetered f first xs m) (sym (append-nil es)) is)
 metered_run f first last es (e ∷ more) m is steps =
     let ids = below (length first.bots) in
-    let one : IsMetered f first (es ++ e ∷ []) (next_metered f m e steps.0 ids) = metered_next f first es m is e steps.0 steps.1 ids (λ b lt lacks. absurd (lacks (has_below (length first.bots) b lt))) in
-    let rest = metered_run f first last (es ++ e ∷ []) more (next_metered f m e steps.0 ids) one steps.2 in
+    let one : IsMetered f first (es ++ e ∷ []) (next_metered f m e.bot steps.0 ids) = metered_next f first es m is e steps.0 steps.1 ids (λ b lt lacks. absurd (lacks (has_below (length first.bots) b lt))) in
+    let rest = metered_run f first last (es ++ e ∷ []) more (next_metered f m e.bot steps.0 ids) one steps.2 in
     (rest.0, subst (λ xs. IsMetered f first xs rest.0) (append_assoc es (e ∷ []) more) rest.1)
 
 pub each_run_is_rounded : EachRunIsRounded

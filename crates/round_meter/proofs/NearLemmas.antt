@@ -1,17 +1,15 @@
 -- The amoebots near cells, taken up one after another.
 use Rattle.std.proofs.Common.{◌≡◌, ◌∙◌, ◌<◌, ◌+◌, ◌++◌, ℕ, List, [], ◌∷◌, length, get_or, take, nat_eq, ap, sym, subst, arith, append-nil}
-use Rattle.std.specs.List.{All, fold}
+use Rattle.std.specs.List.{All, fold, flat_map}
 use Rattle.std.proofs.lemmas.List.{take_more, length-map, map-append, get_or-map, flat_map_more}
 use Rattle.std.proofs.lemmas.List.Elements.{All-get_or, filter_map-append}
 use Rattle.std.proofs.lemmas.List.Sums.{fold-append}
 use Rattle.tri_lattice.specs.declared.node.Node.{Node}
-use Rattle.tri_lattice.specs.Lattice.{ring}
-use Rattle.amoebot_state.specs.declared.cell.CellName.{CellName}
-use Rattle.amoebot_state.specs.declared.cell.Cell.{Cell}
-use Rattle.amoebot_state.specs.Pairs.{Pairs, cell_of}
+use Rattle.tri_lattice.specs.Lattice.{ring, node_eq}
+use Rattle.amoebot_state.specs.Pairs.{CellChange, Triples}
 use Rattle.amoebot_state.specs.Configs.{Config, occupant}
 use Rattle.amoebot_state.specs.Storage.{with_new}
-use Rattle.round_meter.specs.Asking.{IsInReach, cells_among, closed_ring, nodes_of_cell, ids_on, ids_round, ids_near}
+use Rattle.round_meter.specs.Asking.{IsInReach, cells_among, closed_ring, nodes_of_cell, ids_on, ids_round}
 
 -- ids that are taken up after others
 abbrev pub taking : List ℕ → List ℕ → List ℕ
@@ -29,26 +27,36 @@ ring_more c ids v k d lt = ap (λ vs. taking ids (ids_on c (v ∷ vs))) (take_mo
 pub round_whole : (c : Config) (ids : List ℕ) (v : Node) → taking ids (ids_on c (closed_ring v)) ≡ taking ids (ids_round c (v ∷ []))
 round_whole c ids v = ap (taking ids) (sym (append-nil (ids_on c (closed_ring v))))
 
--- two nodes
-pub two_rounds : (c : Config) (ids : List ℕ) (u v : Node) → taking (taking ids (ids_round c (u ∷ []))) (ids_round c (v ∷ [])) ≡ taking ids (ids_round c (u ∷ v ∷ []))
-two_rounds c ids u v =
-    ap (λ is. taking (taking ids is) (ids_round c (v ∷ []))) (append-nil (ids_on c (closed_ring u)))
-    ∙ sym (fold-append (with_new nat_eq) ids (ids_on c (closed_ring u)) (ids_round c (v ∷ [])))
+-- one node more, with those round it
+pub round_more : (c : Config) (ids : List ℕ) (vs : List Node) (k : ℕ) (d : Node) → k < length vs
+    → taking ids (ids_round c (take (k + 1) vs)) ≡ taking (taking ids (ids_round c (take k vs))) (ids_round c (get_or vs k d ∷ []))
+round_more c ids vs k d lt =
+    let round = λ (v : Node). ids_on c (closed_ring v) in
+    let last = get_or vs k d in
+    ap (λ us. taking ids (ids_round c us)) (take_more vs k d lt)
+    ∙ ap (taking ids) (sym (flat_map_more round [] (take k vs) last))
+    ∙ fold-append (with_new nat_eq) ids (ids_round c (take k vs)) (round last)
+    ∙ round_whole c (taking ids (ids_round c (take k vs))) last
 
--- one cell more
-pub near_more : (c : Config) (ids : List ℕ) (ps : Pairs) (k : ℕ) (p : CellName × Cell) → k < length ps
-    → taking ids (ids_near c (cells_among (take (k + 1) ps))) ≡ taking (taking ids (ids_near c (cells_among (take k ps)))) (ids_round c (nodes_of_cell c (cell_of (get_or ps k p))))
-near_more c ids ps k p lt =
-    let round = λ (n : CellName). ids_round c (nodes_of_cell c n) in
-    let first = cells_among (take k ps) in
-    let last = cell_of (get_or ps k p) in
-    ap (λ qs. taking ids (ids_near c (cells_among qs))) (take_more ps k p lt)
-    ∙ ap (λ ns. taking ids (ids_near c ns)) (map-append cell_of (take k ps) (get_or ps k p ∷ []))
-    ∙ ap (taking ids) (sym (flat_map_more round [] first last))
-    ∙ fold-append (with_new nat_eq) ids (ids_near c first) (round last)
+-- nodes that are taken up after others
+abbrev pub taking_nodes : List Node → List Node → List Node
+taking_nodes vs more = fold (with_new node_eq) vs more
+
+-- the nodes of one cell more
+pub nodes_more : (c : Config) (vs : List Node) (ts : Triples) (k : ℕ) (t : CellChange) → k < length ts
+    → taking_nodes vs (flat_map (nodes_of_cell c) (cells_among (take (k + 1) ts))) ≡ taking_nodes (taking_nodes vs (flat_map (nodes_of_cell c) (cells_among (take k ts)))) (nodes_of_cell c (get_or ts k t).0)
+nodes_more c vs ts k t lt =
+    let name = λ (u : CellChange). u.0 in
+    let first = cells_among (take k ts) in
+    let last = (get_or ts k t).0 in
+    ap (λ us. taking_nodes vs (flat_map (nodes_of_cell c) (cells_among us))) (take_more ts k t lt)
+    ∙ ap (λ ns. taking_nodes vs (flat_map (nodes_of_cell c) ns)) (map-append name (take k ts) (get_or ts k t ∷ []))
+    ∙ ap (taking_nodes vs) (sym (flat_map_more (nodes_of_cell c) [] first last))
+    ∙ fold-append (with_new node_eq) vs (flat_map (nodes_of_cell c) first) (nodes_of_cell c last)
 
 -- each cell is in reach
-pub reach_at : (c : Config) (ps : Pairs) (k : ℕ) (p : CellName × Cell) → All (IsInReach c) (cells_among ps) → k < length ps → IsInReach c (cell_of (get_or ps k p))
-reach_at c ps k p all lt =
-    let mapped : k < length (cells_among ps) = omega (arith, lt, length-map ps cell_of) in
-    subst (IsInReach c) (get_or-map cell_of ps k p (cell_of p) lt) (All-get_or (IsInReach c) (cells_among ps) k (cell_of p) mapped all)
+pub reach_at : (c : Config) (ts : Triples) (k : ℕ) (t : CellChange) → All (IsInReach c) (cells_among ts) → k < length ts → IsInReach c (get_or ts k t).0
+reach_at c ts k t all lt =
+    let name = λ (u : CellChange). u.0 in
+    let mapped : k < length (cells_among ts) = omega (arith, lt, length-map ts name) in
+    subst (IsInReach c) (get_or-map name ts k t (name t) lt) (All-get_or (IsInReach c) (cells_among ts) k (name t) mapped all)

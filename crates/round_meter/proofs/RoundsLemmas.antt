@@ -55,7 +55,7 @@ module _ (f : Shown → Verdict) (first : Config) where
   }
 
   -- as many rounds end at one place
-  same_end : (es : List Entry) (n m s t : ℕ) → RoundsTo f first es n s → RoundsTo f first es m t → n ≡ m → s ≡ t
+  pub same_end : (es : List Entry) (n m s t : ℕ) → RoundsTo f first es n s → RoundsTo f first es m t → n ≡ m → s ≡ t
   same_end es n m s t no_round no_round e = refl
   same_end es n m s t no_round (one_more k start end before ends) e = absurd (omega (arith, e))
   same_end es n m s t (one_more k start end before ends) no_round e = absurd (omega (arith, e))

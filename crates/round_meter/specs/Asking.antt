@@ -1,28 +1,26 @@
 -- What a meter does with an entry. No public clause cites these.
-use Rattle.std.specs.Prelude.{ℕ, ◌+◌, ◌<◌, List, [], ◌∷◌, Bool, if◌then◌else◌, map, length, slice_set, nat_eq}
+use Rattle.std.specs.Prelude.{◌≡◌, ℕ, ◌+◌, ◌<◌, List, [], ◌∷◌, Bool, if◌then◌else◌, map, length, slice_set, nat_eq, IsSome}
 use Rattle.std.specs.List.{fold, filter_map, flat_map, range_with_len}
 use Rattle.tri_lattice.specs.declared.node.Node.{Node}
-use Rattle.tri_lattice.specs.Lattice.{ring, IsNear}
+use Rattle.tri_lattice.specs.Lattice.{ring, IsNear, node_eq}
 use Rattle.amoebot_state.specs.declared.cell.CellName.{CellName}
 use Rattle.amoebot_state.specs.declared.cell.CellName.TheVariants as name
-use Rattle.amoebot_state.specs.declared.verdict.Entry.{Entry}
+use Rattle.amoebot_state.specs.declared.verdict.Change.{Change}
 use Rattle.amoebot_state.specs.declared.verdict.Verdict.{Verdict}
-use Rattle.amoebot_state.specs.Pairs.{Pairs, Triples, cell_of, plain_patch}
-use Rattle.amoebot_state.specs.Configs.{Config, bot_of, occupant}
-use Rattle.amoebot_state.specs.Zones.{Shown}
+use Rattle.amoebot_state.specs.declared.verdict.Verdict.TheVariants as verdict
+use Rattle.amoebot_state.specs.Pairs.{CellChange, Triples, plain_patch}
+use Rattle.amoebot_state.specs.Configs.{Config, IsValid, bot_at, bot_of, occupant}
+use Rattle.amoebot_state.specs.Zones.{Shown, shown}
+use Rattle.amoebot_state.specs.Patches.{IsPatched}
 use Rattle.amoebot_state.specs.Storage.{with_new}
 use Rattle.round_meter.specs.declared.standing.Standing.{Standing}
 use Rattle.round_meter.specs.Rounds.{enabled_in}
 use Rattle.round_meter.specs.Meters.{Metered, standing_of, this_round}
 use Rattle.round_meter.specs.Tallies.{Tallied, metered, with_round_ended}
 
--- the cells of a patch with their new values: all that is used of a patch here
-abbrev pub new_pairs : Triples → Pairs
-new_pairs patch = plain_patch patch
-
--- the cells among pairs
-abbrev pub cells_among : Pairs → List CellName
-cells_among ps = map cell_of ps
+-- the cells that a patch changes
+abbrev pub cells_among : Triples → List CellName
+cells_among patch = map (λ (t : CellChange). t.0) patch
 
 -- a node and those round it
 abbrev pub closed_ring : Node → List Node
@@ -40,14 +38,14 @@ ids_on c vs = filter_map (occupant c) vs
 abbrev pub ids_round : Config → List Node → List ℕ
 ids_round c vs = flat_map (λ v. ids_on c (closed_ring v)) vs
 
--- the amoebots that are asked again once these cells have changed: in the configuration before the change those on and round the
--- cells' nodes
-abbrev pub ids_near : Config → List CellName → List ℕ
-ids_near c cells = flat_map (λ k. ids_round c (nodes_of_cell c k)) cells
+-- the nodes of these cells, each once
+abbrev pub nodes_asked : Config → List CellName → List Node
+nodes_asked c cells = fold (with_new node_eq) [] (flat_map (nodes_of_cell c) cells)
 
--- the same for the cells among pairs, each once
-abbrev pub ids_asked : Config → Pairs → List ℕ
-ids_asked c ps = fold (with_new nat_eq) [] (ids_near c (cells_among ps))
+-- the amoebots that are asked again once these cells have changed: in the configuration before the change those on and round the
+-- cells' nodes, each once
+abbrev pub ids_asked : Config → List CellName → List ℕ
+ids_asked c cells = fold (with_new nat_eq) [] (ids_round c (nodes_asked c cells))
 
 -- a cell whose nodes can be found: a node whose neighbours have coordinates, or the body of an amoebot
 abbrev pub IsInReach : Config → CellName → Type 0
@@ -107,12 +105,29 @@ abbrev pub next_standings : (Shown → Verdict) → Config → ℕ → ℕ → L
 next_standings f world round bot ids standings =
     asked_each f world round (standings_after_entry round standings bot) ids
 
--- a meter after an entry that leads to a world, once these amoebots were asked again
-abbrev pub next_metered : (Shown → Verdict) → Metered → Entry → Config → List ℕ → Metered
-next_metered f m e world ids =
-    let standings = next_standings f world (this_round m) e.bot ids m.standings in
+-- a meter after an entry of an amoebot that leads to a world, once these amoebots were asked again
+abbrev pub next_metered : (Shown → Verdict) → Metered → ℕ → Config → List ℕ → Metered
+next_metered f m bot world ids =
+    let standings = next_standings f world (this_round m) bot ids m.standings in
     metered world (with_round_ended (record { standings = standings; rounds = m.rounds })) (m.fed + 1)
 
--- room for the amoebots on and round the nodes of ten cells: two nodes each, and seven amoebots for each node
+-- a change with this patch is decided on what an amoebot is shown
+abbrev pub IsDecidedWith : (Shown → Verdict) → Config → ℕ → Triples → Type 0
+IsDecidedWith f c bot patch =
+    (change : Change) × (change.patch ≡ patch) × (f (shown c bot) ≡ verdict.Change change)
+
+-- the patch of an amoebot's entry was entered: it led to the next world, and those that may be shown another one were asked again
+pub record IsEntered (f : Shown → Verdict) (old : Metered) (bot : ℕ) (patch : Triples) (new : Metered) : Type 0 where
+  pub valid : IsValid old.world
+  pub no_gaps : (b : ℕ) → b < length old.world.bots → IsSome (bot_at old.world b)
+  pub size : length old.standings ≡ length old.world.bots
+  pub patched : IsPatched old.world (plain_patch patch) new.world
+  pub next : new ≡ next_metered f old bot new.world (ids_asked old.world (cells_among patch))
+
+-- room for the nodes of ten cells: two for each
+abbrev pub near_nodes_room : ℕ
+near_nodes_room = 20
+
+-- room for the amoebots on and round these nodes: seven for each
 abbrev pub near_room : ℕ
 near_room = 140

@@ -1,12 +1,13 @@
 -- What follows from the definitions alone.
 use Rattle.std.specs.Prelude.{◌≡◌, ◌<◌, ℕ, List, length, IsSome}
 use Rattle.amoebot_state.specs.declared.verdict.Entry.{Entry}
+use Rattle.amoebot_state.specs.declared.verdict.PlainEntry.{PlainEntry}
 use Rattle.amoebot_state.specs.declared.verdict.Verdict.{Verdict}
 use Rattle.amoebot_state.specs.Configs.{Config, IsValid, bot_at}
 use Rattle.amoebot_state.specs.Zones.{Shown}
 use Rattle.amoebot_state.specs.Steps.{Run}
 use Rattle.round_meter.specs.Rounds.{EndsRound, IsRounded}
-use Rattle.round_meter.specs.Meters.{Metered, IsMetered, waiting_of}
+use Rattle.round_meter.specs.Meters.{Metered, IsMetered, GoesOnBy, GoesOnWith, TellTheSame, waiting_of}
 
 -- the round from a start ends at one place at most
 abbrev pub RoundIsUnique : Type 0
@@ -39,3 +40,25 @@ MeterTellsRounds =
     (f : Shown → Verdict) (first : Config) (entries : List Entry) (m : Metered)
     → IsMetered f first entries m
     → IsRounded f first entries m.rounds (waiting_of m)
+
+-- meters that stand for one run tell the same
+abbrev pub MetersTellTheSame : Type 0
+MetersTellTheSame =
+    (f : Shown → Verdict) (first : Config) (entries : List Entry) (one two : Metered)
+    → IsMetered f first entries one
+    → IsMetered f first entries two
+    → TellTheSame one two
+
+-- so a meter goes on with an entry in one way
+abbrev pub GoesOnWithIsUnique : Type 0
+GoesOnWithIsUnique =
+    (f : Shown → Verdict) (e : Entry) (old new other : Metered)
+    → GoesOnWith f e old new
+    → GoesOnWith f e old other
+    → TellTheSame new other
+
+-- and by an entry without old values, which tells one entry
+abbrev pub GoesOnByIsUnique : Type 0
+GoesOnByIsUnique =
+    (f : Shown → Verdict) (p : PlainEntry) (old new other : Metered) (one : GoesOnBy f p old new) (two : GoesOnBy f p old other)
+    → (one.entry ≡ two.entry) × TellTheSame new other

@@ -68,11 +68,37 @@ pub record IsMetered (f : Shown → Verdict) (first : Config) (entries : List En
       → b < length first.bots
       → Decides (not (waits_in (this_round m) (standing_of m.standings b))) (IsSettled f first entries b start (length entries))
 
--- a meter goes on by the entry that one without old values tells: that is a step, and the meter stands for each run of before with it
+-- it stands for some run
+abbrev pub StandsForRun : (Shown → Verdict) → Metered → Type 0
+StandsForRun f m = (first : Config) × (entries : List Entry) × IsMetered f first entries m
+
+-- A meter that stands for a run goes on with an entry: that is a step, and for each run that the meter stood for, it stands with the
+-- entry behind.
+pub record GoesOnWith (f : Shown → Verdict) (e : Entry) (old new : Metered) : Type 0 where
+  pub stands : StandsForRun f old
+  pub step : Step f old.world e new.world
+  pub metered : (first : Config) (entries : List Entry)
+      → IsMetered f first entries old
+      → IsMetered f first (entries ++ e ∷ []) new
+
+-- it goes on by an entry without old values: with the entry that this one tells
 pub record GoesOnBy (f : Shown → Verdict) (p : PlainEntry) (old new : Metered) : Type 0 where
   pub entry : Entry
   pub plain : plain_entry entry ≡ p
-  pub step : Step f old.world entry new.world
-  pub metered : (first : Config) (entries : List Entry)
-      → IsMetered f first entries old
-      → IsMetered f first (entries ++ entry ∷ []) new
+  pub on : GoesOnWith f entry old new
+
+-- Two meters tell the same of a run and its rounds, and of each amoebot whether it is enabled, and whether it waits.
+-- All else that they keep is the round in which an amoebot was settled last that is not enabled, or that waits. No later round depends
+-- on that.
+pub record TellTheSame (one two : Metered) : Type 0 where
+  pub world : one.world ≡ two.world
+  pub fed : one.fed ≡ two.fed
+  pub rounds : one.rounds ≡ two.rounds
+  pub waiting : waiting_of one ≡ waiting_of two
+  pub size : length one.standings ≡ length two.standings
+  pub able : (b : ℕ)
+      → b < length one.standings
+      → (standing_of one.standings b).enabled ≡ (standing_of two.standings b).enabled
+  pub waits : (b : ℕ)
+      → b < length one.standings
+      → waits_in (this_round one) (standing_of one.standings b) ≡ waits_in (this_round two) (standing_of two.standings b)

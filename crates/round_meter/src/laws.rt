@@ -1,4 +1,7 @@
 ghost use Rattle.round_meter.specs.Laws.{RoundIsUnique, RoundsAreUnique, EachRunIsRounded, MeterTellsRounds};
+ghost use Rattle.round_meter.specs.Laws.{MetersTellTheSame, GoesOnWithIsUnique, GoesOnByIsUnique};
+
+use serial_model::plain_step_is_unique;
 
 /// The round from a start ends at one place at most.
 pub fn round_is_unique()
@@ -19,3 +22,20 @@ pub fn each_run_is_rounded()
 pub fn meter_tells_rounds()
     ensures { MeterTellsRounds }
 {}
+
+/// Meters that stand for one run tell the same.
+pub fn meters_tell_the_same()
+    ensures { MetersTellTheSame }
+{}
+
+/// A meter goes on with an entry in one way.
+pub fn goes_on_with_is_unique()
+    ensures { GoesOnWithIsUnique }
+{}
+
+/// A meter goes on by an entry without old values in one way, and that tells one entry.
+pub fn goes_on_by_is_unique()
+    ensures { GoesOnByIsUnique }
+{
+    plain_step_is_unique();
+}

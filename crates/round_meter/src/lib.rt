@@ -5,8 +5,12 @@ mod enabled;
 mod laws;
 mod meter;
 mod near;
+mod progress;
 mod standing;
 mod tally;
 
-pub use laws::{each_run_is_rounded, meter_tells_rounds, round_is_unique, rounds_are_unique};
+pub use laws::{
+    each_run_is_rounded, goes_on_by_is_unique, goes_on_with_is_unique, meter_tells_rounds,
+    meters_tell_the_same, round_is_unique, rounds_are_unique,
+};
 pub use meter::Meter;

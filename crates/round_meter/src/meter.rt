@@ -1,19 +1,10 @@
-ghost use Rattle.std.specs.Prelude.{◌≡◌, ◌+◌, ◌++◌, ◌∷◌, [], ◌<◌, ◌^◌, length, IfOk, OnOk, IfErr, ℕ, List};
-ghost use Rattle.std.specs.List.{All};
-ghost use Rattle.amoebot_state.specs.declared.verdict.Verdict.TheVariants as verdict;
-ghost use Rattle.amoebot_state.specs.Configs.{Config};
-ghost use Rattle.amoebot_state.specs.Zones.{shown};
-ghost use Rattle.amoebot_state.specs.Steps.{Step, change_of};
+ghost use Rattle.std.specs.Prelude.{◌≡◌, ◌+◌, [], ◌<◌, ◌^◌, length, IfOk, OnOk, IfErr};
 ghost use Rattle.serial_model.specs.Replays.{IsNoStep, IsNoPlainStep};
-ghost use Rattle.round_meter.specs.Meters.{GoesOnBy, IsMetered, waiting_of};
-ghost use Rattle.round_meter.specs.Asking.{asked_each, first_tallied};
-ghost use Rattle.round_meter.specs.Tallies.{with_standings};
+ghost use Rattle.round_meter.specs.Meters.{GoesOnWith, GoesOnBy, IsMetered, StandsForRun, waiting_of};
 
-use crate::enabled::is_enabled;
-use crate::near::ids_near;
-use crate::tally::Tally;
-use amoebot_state::{Decider, Entry, Found, NoMemory, PlainEntry, World, has_next, touches_zone};
-use serial_model::{Differs, decides_on, told_on};
+use crate::progress::Progress;
+use amoebot_state::{Decider, Entry, Found, NoMemory, PlainEntry, World};
+use serial_model::Differs;
 use std::alloc::Global;
 use std::marker::Model;
 
@@ -22,20 +13,19 @@ use std::marker::Model;
 #[derive(Drop)]
 pub struct Meter<'d, D: Decider> {
     decider: &'d D,
-    world: World,
-    tally: Tally,
-    fed: u32,
+    progress: Progress,
+    /// Room for what amoebots are shown, if the world has one.
+    found: Option<Found>,
 }
 
 impl<'d, D: Decider> Model for Meter<'d, D> {
-    ghost use Rattle.round_meter.specs.Meters.{MeterOf};
-    ghost use Rattle.round_meter.specs.Tallies.{metered, IsInStep};
+    ghost use Rattle.round_meter.specs.Meters.{MeterOf, StandsForRun};
 
     ghost Value = { MeterOf D };
 
-    ghost view = { λ m. record { decider = m.decider.now; state = metered m.world m.tally m.fed } };
+    ghost view = { λ m. record { decider = m.decider.now; state = m.progress } };
 
-    ghost invariant = { λ m. IsInStep m.world m.tally m.fed };
+    ghost invariant = { λ m. StandsForRun (D.verdict m.decider.now) m.progress };
 }
 
 impl<'d, D: Decider> Meter<'d, D> {
@@ -44,14 +34,20 @@ impl<'d, D: Decider> Meter<'d, D> {
         ensures decider { IfOk result (λ m. m.decider ≡ decider.now) }
         ensures metered { IfOk result (λ m. IsMetered (D.verdict decider.now) start [] m.state) }
     {
-        start.keeps();
-        let tally = first_tally(alloc, decider, &start)?;
+        let found = room_in(&start);
+        let progress = Progress::make(alloc, decider, start)?;
         Ok(Meter {
             decider,
-            world: start,
-            tally,
-            fed: 0,
+            progress,
+            found,
         })
+    }
+
+    /// What a meter keeps: it stands for some run of the decider.
+    pub fn keeps(&self)
+        ensures { StandsForRun (D.verdict self.now.decider) self.now.state }
+    {
+        let _progress = &self.progress;
     }
 
     /// Goes on by an entry of one of the world's amoebots. Differs tells that it is no step from the world that was reached, with the
@@ -59,10 +55,7 @@ impl<'d, D: Decider> Meter<'d, D> {
     pub fn feed(&mut self, entry: &Entry) -> Result<(), Differs>
         requires there { entry.now.bot < length self.old.state.world.bots }
         requires few { self.old.state.fed + 1 < 2 ^ 32 }
-        ensures metered { OnOk result ((first : Config) → (entries : List Entry)
-            → IsMetered (D.verdict self.old.decider) first entries self.old.state
-            → IsMetered (D.verdict self.old.decider) first (entries ++ entry.now ∷ []) self.new.state) }
-        ensures step { OnOk result (Step (D.verdict self.old.decider) self.old.state.world entry.now self.new.state.world) }
+        ensures goes_on { OnOk result (GoesOnWith (D.verdict self.old.decider) entry.now self.old.state self.new.state) }
         ensures fed { OnOk result (self.new.state.fed ≡ self.old.state.fed + 1) }
         ensures size { length self.new.state.world.bots ≡ length self.old.state.world.bots }
         ensures differs { IfErr result (λ e. (e.place ≡ self.old.state.fed)
@@ -70,12 +63,16 @@ impl<'d, D: Decider> Meter<'d, D> {
             × (self.new ≡ self.old)) }
         ensures decider { self.new.decider ≡ self.old.decider }
     {
-        let mut found = self.world.found(entry.bot);
-        if !decides_on(self.decider, &found, entry) {
-            return Err(Differs { place: self.fed });
+        match &mut self.found {
+            Some(found) => {
+                self.progress.show(entry.bot, found);
+                self.progress.feed(self.decider, entry, found)
+            }
+            None => {
+                let mut found = self.progress.found(entry.bot);
+                self.progress.feed(self.decider, entry, &mut found)
+            }
         }
-        self.enter(entry, &mut found);
-        Ok(())
     }
 
     /// Goes on by an entry without old values, of one of the world's amoebots: by the entry that it tells. Differs tells that it is no step
@@ -91,101 +88,45 @@ impl<'d, D: Decider> Meter<'d, D> {
             × (self.new ≡ self.old)) }
         ensures decider { self.new.decider ≡ self.old.decider }
     {
-        let mut found = self.world.found(plain.bot);
-        let Some(change) = told_on(self.decider, &found, plain) else {
-            return Err(Differs { place: self.fed });
-        };
-        let entry = Entry {
-            caller: plain.caller,
-            turn: plain.turn,
-            bot: plain.bot,
-            action: change.action,
-            moved: change.moved,
-            patch: change.patch,
-        };
-        self.enter(&entry, &mut found);
-        Ok(())
-    }
-
-    /// Goes on by an entry that is decided. `found` is room for what amoebots are shown.
-    fn enter(&mut self, entry: &Entry, found: &mut Found)
-        requires there { entry.now.bot < length self.old.state.world.bots }
-        requires few { self.old.state.fed + 1 < 2 ^ 32 }
-        requires decided { D.verdict self.old.decider (shown self.old.state.world entry.now.bot) ≡ verdict.Change (change_of entry.now) }
-        ensures step { Step (D.verdict self.old.decider) self.old.state.world entry.now self.new.state.world }
-        ensures metered { (first : Config) → (entries : List Entry)
-            → IsMetered (D.verdict self.old.decider) first entries self.old.state
-            → IsMetered (D.verdict self.old.decider) first (entries ++ entry.now ∷ []) self.new.state }
-        ensures fed { self.new.state.fed ≡ self.old.state.fed + 1 }
-        ensures decider { self.new.decider ≡ self.old.decider }
-    {
-        touches_zone(self.decider);
-        has_next(self.decider);
-        self.world.keeps();
-        let plain = entry.patch.plain();
-        let near = ids_near(&self.world, plain.pairs());
-        self.world.apply(&entry.patch);
-        self.tally.enter(entry.bot);
-        ask_each(
-            &mut self.tally,
-            self.decider,
-            &self.world,
-            near.as_slice(),
-            found,
-        );
-        self.tally.end_round();
-        self.fed += 1;
+        match &mut self.found {
+            Some(found) => {
+                self.progress.show(plain.bot, found);
+                self.progress.follow(self.decider, plain, found)
+            }
+            None => {
+                let mut found = self.progress.found(plain.bot);
+                self.progress.follow(self.decider, plain, &mut found)
+            }
+        }
     }
 
     /// How many rounds have ended.
     pub fn rounds(&self) -> u32
         ensures { result ≡ self.now.state.rounds }
     {
-        self.tally.rounds()
+        self.progress.rounds()
     }
 
     /// How many amoebots are not settled in the last round that was started.
     pub fn waiting(&self) -> u32
         ensures { result ≡ waiting_of self.now.state }
     {
-        self.tally.waiting()
+        self.progress.waiting()
     }
 
     /// The world that was reached.
     pub fn world(&self) -> &World
         ensures { result.now ≡ self.now.state.world }
     {
-        &self.world
+        self.progress.world()
     }
 }
 
-/// How the amoebots of a world stand at the start of a run.
-fn first_tally<D: Decider>(alloc: Global, decider: &D, world: &World) -> Result<Tally, NoMemory>
-    ensures { IfOk result (λ t. t ≡ first_tallied (D.verdict decider.now) world.now) }
-{
-    let mut tally = Tally::new(alloc);
-    for bot in 0..world.bots() {
-        tally.push(is_enabled(decider, &world.found(bot)))?;
-    }
-    Ok(tally)
-}
-
-/// Asks these amoebots of the world again. What each is shown takes the place of what was found before.
-fn ask_each<D: Decider>(
-    tally: &mut Tally,
-    decider: &D,
-    world: &World,
-    ids: &[u16],
-    found: &mut Found,
-)
-    requires there { All (λ i. i < length world.now.bots) ids.now }
-    requires size { length tally.old.standings ≡ length world.now.bots }
-    requires few { tally.old.rounds + 1 < 2 ^ 32 }
-    ensures { tally.new ≡ with_standings tally.old
-        (asked_each (D.verdict decider.now) world.now (tally.old.rounds + 1) tally.old.standings ids.now) }
-{
-    for id in ids {
-        world.show(*id, found);
-        tally.note(*id, is_enabled(decider, found));
+/// Room for what an amoebot of the world is shown, if it has one.
+fn room_in(world: &World) -> Option<Found> {
+    if world.bots() > 0 {
+        Some(world.found(0))
+    } else {
+        None
     }
 }

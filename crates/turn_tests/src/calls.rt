@@ -3,18 +3,20 @@ ghost use Rattle.std.specs.Prelude.{◌≡◌, IfOk};
 ghost use Rattle.claim_rule.specs.Tokens.{IsOf, number_in};
 
 use crate::fixtures::turn_of;
-use crate::runs::{check_turns, worked};
+use crate::runs::{WAYS, Way, report_of};
 use activation::Gate;
 use amoebot_state::{Decider, Found, Verdict};
 use claim_core::{Lists, Mark, Marks};
 use claim_rule::{Field, Seat};
 use claim_tests::{field_of, seat_of};
 use small_worlds::{Idler, Marker, lists_of, standing, world_in};
+use std::alloc::Global;
 use std::process::Abort;
 use std::sync::Wait;
 use std::sync::atomic::{AtomicU64, Ordering};
 use std::test::Fail;
 use std::thread;
+use std::thread::Threads;
 
 /// Is idle. It counts its decisions, and those that did not come right behind a call of the gate.
 #[derive(Drop)]
@@ -219,17 +221,41 @@ impl Register {
     }
 }
 
-/// In twenty runs of four workers on three amoebots in a row, each turn that is not Busy comes to the gate, and no other does.
-#[test]
-fn each_turn_that_is_not_busy_comes_to_the_gate_once(rt: HostRuntime) -> Result<(), Fail> {
+/// In a run of four workers on three amoebots in a row, each turn that is not Busy comes to the gate, and no other does.
+fn come_to_the_gate<R: Abort + Threads + Wait + Sync>(
+    rt: &R,
+    alloc: Global,
+    way: Way,
+) -> Result<(), Fail> {
     let bots = [standing(2, 3, 0), standing(3, 3, 0), standing(4, 3, 0)];
     let ids: &[&[u16]] = &[&[0, 1, 2], &[1, 2], &[2, 0, 1], &[1]];
+    let gate = Register::new();
+    let report = report_of(rt, alloc, way, &Marker, &bots, 12, ids, &gate)?;
+    let marks = &report.turns;
+    assert!(rt; marks.callers() == 4 && gate.is_of(marks));
+    Ok(())
+}
+
+/// In twenty runs by each way.
+#[test]
+fn each_turn_that_is_not_busy_comes_to_the_gate_once(rt: HostRuntime) -> Result<(), Fail> {
     for _run in 0..20 {
-        let gate = Register::new();
-        let worked = worked(&rt, rt.alloc(), &Marker, &bots, 12, ids, &gate)?;
-        let marks = &worked.report.turns;
-        assert!(rt; marks.callers() == 4 && gate.is_of(marks));
-        check_turns(&rt, &worked)?;
+        for way in WAYS {
+            come_to_the_gate(&rt, rt.alloc(), way)?;
+        }
+    }
+    Ok(())
+}
+
+/// In both turns the gate is called once, and then the decision is made.
+#[test]
+fn workers_decide_right_behind_the_gate(rt: HostRuntime) -> Result<(), Fail> {
+    for way in WAYS {
+        let decider = Watching::new();
+        let gate = Before { decider: &decider };
+        let bots = [standing(2, 3, 0)];
+        report_of(&rt, rt.alloc(), way, &decider, &bots, 2, &[&[0]], &gate)?;
+        assert!(rt; decider.has_seen(2));
     }
     Ok(())
 }

@@ -10,6 +10,8 @@ mod fixtures;
 #[cfg(test)]
 mod gates;
 #[cfg(test)]
+mod holding;
+#[cfg(test)]
 mod journals;
 #[cfg(test)]
 mod machine;
@@ -19,5 +21,7 @@ mod meeting;
 mod reports;
 #[cfg(test)]
 mod runs;
+#[cfg(test)]
+mod tickets;
 #[cfg(test)]
 mod turns;

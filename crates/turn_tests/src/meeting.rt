@@ -1,13 +1,16 @@
 //! Workers that wait for one another in each turn.
-use crate::runs::{check_turns, work_over, worked};
+use crate::runs::{WAYS, Way, report_of, report_over};
 use activation::{Gate, NoGate};
 use amoebot_state::{CellName, Decider, End, Failure, Found, Port, Verdict, World};
 use claim_core::{Mark, Marks, Report};
 use small_worlds::{Expander, Marker, lists_of, standing};
 use std::alloc::Global;
+use std::process::Abort;
+use std::sync::Wait;
 use std::sync::atomic::{AtomicBool, Ordering};
 use std::test::Fail;
 use std::thread;
+use std::thread::Threads;
 use tri_lattice::Area;
 use turn_workers::MeetGate;
 
@@ -58,14 +61,23 @@ static EITHER_FIRST: [[&[Mark]; 2]; 2] = [
     [&[DONE_1, IDLE_2, IDLE_2], &[DONE_0, IDLE_2, IDLE_2]],
 ];
 
-#[test]
-fn two_workers_far_from_each_other_meet_in_each_turn(rt: HostRuntime) -> Result<(), Fail> {
+fn two_meet<R: Abort + Threads + Wait + Sync>(rt: &R, alloc: Global, way: Way) -> Result<(), Fail> {
     let gate = MeetGate::new(2, 50_000_000);
     let bots = [standing(1, 1, 0), standing(6, 6, 0)];
-    let worked = worked(&rt, rt.alloc(), &EXPANDER, &bots, 3, &[&[0], &[1]], &gate)?;
-    let marks = &worked.report.turns;
+    let report = report_of(rt, alloc, way, &EXPANDER, &bots, 3, &[&[0], &[1]], &gate)?;
+    let marks = &report.turns;
     assert!(rt; gate.met() && EITHER_FIRST.iter().any(|wanted| have_marks(marks, wanted)));
-    check_turns(&rt, &worked)
+    Ok(())
+}
+
+#[test]
+fn two_workers_far_from_each_other_meet_in_each_turn(rt: HostRuntime) -> Result<(), Fail> {
+    two_meet(&rt, rt.alloc(), Way::Journal)
+}
+
+#[test]
+fn two_ticket_workers_meet_in_each_turn(rt: HostRuntime) -> Result<(), Fail> {
+    two_meet(&rt, rt.alloc(), Way::Tickets)
 }
 
 /// A caller's first turn waits, with its zone claimed, until the other caller has come to its last turn; and that one begins when it waits.
@@ -117,17 +129,32 @@ static ONE_IS_HELD: [&[Mark]; 2] = [
     ],
 ];
 
-#[test]
-fn a_turn_is_busy_while_another_worker_holds_its_amoebot(rt: HostRuntime) -> Result<(), Fail> {
+fn one_is_held<R: Abort + Threads + Wait + Sync>(
+    rt: &R,
+    alloc: Global,
+    way: Way,
+) -> Result<(), Fail> {
     let gate = Holding {
         held: AtomicBool::new(false),
         passed: AtomicBool::new(false),
     };
     let bots = [standing(1, 1, 0), standing(6, 6, 0)];
     let lists: &[&[u16]] = &[&[0], &[1, 0, 1]];
-    let worked = worked(&rt, rt.alloc(), &EXPANDER, &bots, 3, lists, &gate)?;
-    assert!(rt; have_marks(&worked.report.turns, &ONE_IS_HELD));
-    check_turns(&rt, &worked)
+    let report = report_of(rt, alloc, way, &EXPANDER, &bots, 3, lists, &gate)?;
+    assert!(rt; have_marks(&report.turns, &ONE_IS_HELD));
+    Ok(())
+}
+
+#[test]
+fn a_turn_is_busy_while_another_worker_holds_its_amoebot(rt: HostRuntime) -> Result<(), Fail> {
+    one_is_held(&rt, rt.alloc(), Way::Journal)
+}
+
+#[test]
+fn a_ticket_turn_is_busy_while_another_worker_holds_its_amoebot(
+    rt: HostRuntime,
+) -> Result<(), Fail> {
+    one_is_held(&rt, rt.alloc(), Way::Tickets)
 }
 
 /// Waits for the other callers in each decision, and is idle.
@@ -153,19 +180,30 @@ impl Decider for Meeting {
     }
 }
 
-#[test]
-fn workers_decide_beside_each_other(rt: HostRuntime) -> Result<(), Fail> {
+fn decide_beside_each_other<R: Abort + Threads + Wait + Sync>(
+    rt: &R,
+    alloc: Global,
+    way: Way,
+) -> Result<(), Fail> {
     let decider = Meeting {
         gate: MeetGate::new(2, 50_000_000),
     };
     let bots = [standing(1, 1, 0), standing(6, 6, 0)];
-    let worked = worked(&rt, rt.alloc(), &decider, &bots, 1, &[&[0], &[1]], &NoGate)?;
+    report_of(rt, alloc, way, &decider, &bots, 1, &[&[0], &[1]], &NoGate)?;
     assert!(rt; decider.gate.met());
-    check_turns(&rt, &worked)
+    Ok(())
+}
+
+#[test]
+fn workers_decide_beside_each_other(rt: HostRuntime) -> Result<(), Fail> {
+    for way in WAYS {
+        decide_beside_each_other(&rt, rt.alloc(), way)?;
+    }
+    Ok(())
 }
 
 /// Sixteen contracted amoebots of which no two have a node of their zones in common.
-fn scattered(alloc: Global) -> Result<World, Fail> {
+pub fn scattered(alloc: Global) -> Result<World, Fail> {
     let mut bots = Vec::new(alloc);
     for number in 0..16u8 {
         bots.push(standing(3 * (number % 4) + 1, 3 * (number / 4) + 1, 0))?;
@@ -194,14 +232,25 @@ static SIXTEEN: [&[u16]; 16] = [
     &[15],
 ];
 
+fn sixteen_meet<R: Abort + Threads + Wait + Sync>(
+    rt: &R,
+    alloc: Global,
+    way: Way,
+) -> Result<(), Fail> {
+    let gate = MeetGate::new(16, 50_000_000);
+    let world = scattered(alloc)?;
+    let lists = lists_of(alloc, 2, &world, &SIXTEEN)?;
+    let report = report_over(rt, alloc, way, &Marker, world, &lists, &gate)?;
+    assert!(rt; gate.met() && report.journal.entries().len() == 16);
+    Ok(())
+}
+
 #[test]
 fn sixteen_workers_meet_in_each_turn(rt: HostRuntime) -> Result<(), Fail> {
-    let gate = MeetGate::new(16, 50_000_000);
-    let world = scattered(rt.alloc())?;
-    let lists = lists_of(rt.alloc(), 2, &world, &SIXTEEN)?;
-    let worked = work_over(&rt, rt.alloc(), &Marker, world, &lists, &gate)?;
-    assert!(rt; gate.met() && worked.report.journal.entries().len() == 16);
-    check_turns(&rt, &worked)
+    for way in WAYS {
+        sixteen_meet(&rt, rt.alloc(), way)?;
+    }
+    Ok(())
 }
 
 /// How many turns there are, and the lists, where nobody has a turn; and no list or no turn is left.
@@ -210,12 +259,19 @@ static NO_TURNS: [(u32, &[&[u16]], &[&[Mark]]); 2] = [
     (0, &[&[0], &[0]], &[&[], &[]]),
 ];
 
-#[test]
-fn without_a_list_or_a_turn_the_world_stays(rt: HostRuntime) -> Result<(), Fail> {
+fn all_stay<R: Abort + Threads + Wait + Sync>(rt: &R, alloc: Global, way: Way) -> Result<(), Fail> {
     for (turns, ids, wanted) in &NO_TURNS {
         let bots = [standing(1, 1, 0)];
-        let worked = worked(&rt, rt.alloc(), &EXPANDER, &bots, *turns, ids, &NoGate)?;
-        assert!(rt; stays(&worked.report) && have_marks(&worked.report.turns, wanted));
+        let report = report_of(rt, alloc, way, &EXPANDER, &bots, *turns, ids, &NoGate)?;
+        assert!(rt; stays(&report) && have_marks(&report.turns, wanted));
+    }
+    Ok(())
+}
+
+#[test]
+fn without_a_list_or_a_turn_the_world_stays(rt: HostRuntime) -> Result<(), Fail> {
+    for way in WAYS {
+        all_stay(&rt, rt.alloc(), way)?;
     }
     Ok(())
 }
@@ -241,7 +297,10 @@ static ONE_CALLER: [&[Mark]; 1] = [&[
 #[test]
 fn a_caller_alone_is_never_busy(rt: HostRuntime) -> Result<(), Fail> {
     let bots = [standing(1, 1, 0), standing(2, 1, 0)];
-    let worked = worked(&rt, rt.alloc(), &EXPANDER, &bots, 4, &[&[0, 1]], &NoGate)?;
-    assert!(rt; have_marks(&worked.report.turns, &ONE_CALLER));
-    check_turns(&rt, &worked)
+    for way in WAYS {
+        let alloc = rt.alloc();
+        let report = report_of(&rt, alloc, way, &EXPANDER, &bots, 4, &[&[0, 1]], &NoGate)?;
+        assert!(rt; have_marks(&report.turns, &ONE_CALLER));
+    }
+    Ok(())
 }

@@ -4,7 +4,7 @@ ghost use Rattle.std.specs.List.{All};
 ghost use Rattle.amoebot_state.specs.Limits.{most_bots};
 ghost use Rattle.amoebot_state.specs.Refusals.{IsBotInRange};
 
-use crate::runs::{check_turns, worked};
+use crate::runs::{WAYS, report_of};
 use activation::{Gate, NoGate};
 use amoebot_state::{Bot, Decider, End, Port};
 use claim_tests::is_report;
@@ -35,7 +35,7 @@ impl Gate for Yielding {
     }
 }
 
-/// Judges the reports of so many runs. Each journal, replayed, gives the report's world.
+/// Judges the reports of so many runs by each way. Each journal, replayed, gives the report's world.
 fn check_runs<R: Threads + Wait + Sync + Abort, D: Decider>(
     rt: &R,
     alloc: Global,
@@ -51,14 +51,15 @@ fn check_runs<R: Threads + Wait + Sync + Abort, D: Decider>(
     let first = world_of(alloc, bots)?;
     let lists = lists_of(alloc, turns, &first, ids)?;
     for run in 0..runs {
-        let worked = if run % 2 == 0 {
-            worked(rt, alloc, decider, bots, turns, ids, &NoGate)?
-        } else {
-            worked(rt, alloc, decider, bots, turns, ids, &Yielding)?
-        };
-        let passes = is_report(alloc, decider, &first, &lists, &worked.report)?;
-        assert!(rt; passes, "run {run}");
-        check_turns(rt, &worked)?;
+        for way in WAYS {
+            let report = if run % 2 == 0 {
+                report_of(rt, alloc, way, decider, bots, turns, ids, &NoGate)?
+            } else {
+                report_of(rt, alloc, way, decider, bots, turns, ids, &Yielding)?
+            };
+            let passes = is_report(alloc, decider, &first, &lists, &report)?;
+            assert!(rt; passes, "run {run}");
+        }
     }
     Ok(())
 }

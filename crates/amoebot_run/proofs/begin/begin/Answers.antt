@@ -6,8 +6,7 @@ use Rattle.command_answers.specs.Owed.{usage}
 use Rattle.command_answers.specs.Reads.{nothing}
 use Rattle.command_words.specs.declared.command.Command.TheVariants.{Show, Sample}
 use Rattle.amoebot_run.specs.Clauses.{CameTo}
-use Rattle.amoebot_run.specs.Parts.{has_ended}
-use Rattle.amoebot_run.proofs.Parts.{begun_at, begun_maps, line_begun, without_begun}
+use Rattle.amoebot_run.proofs.Parts.{begun_at, begun_maps, has_ended_with, line_begun, without_begun}
 use Rattle.amoebot_run.proofs.begin.begin.Goals as goal
 
 pub returns-in-Ok-None-clause-begun : goal.returns-in-Ok-None-clause-begun
@@ -26,7 +25,7 @@ returns-in-Document-clause-unread g c = λ none. absurd (subst ReadsNothing (sym
 
 pub returns-in-Show-clause-begun : goal.returns-in-Show-clause-begun
 returns-in-Show-clause-begun g c = begun_at (λ o. CameTo g.S.Source o c.args.input.now c.args.input.now) _ _ (ap Some (sym c.in-Show.is) ∙ sym c.in-Ok-Some.field-0-is ∙ c.in-Ok-Some.ensures.command)
-    (begun_maps (λ read e. subst (CameTo g.S.Source (Some (Show c.in-Show.program)) c.args.input.now c.args.input.now) (sym e) refl) (λ text all. all) (λ text front. front) (λ same. same) _ _ (has_ended _ c.end_show.ensures.ending c.end_show.ensures.turns))
+    (begun_maps (λ read e. subst (CameTo g.S.Source (Some (Show c.in-Show.program)) c.args.input.now c.args.input.now) (sym e) refl) (λ text all. all) (λ text front. front) (λ same. same) _ _ (has_ended_with _ c.end_show.ensures.ending (record { turns_there = c.end_show.ensures.turns; tickets_there = c.end_show.ensures.tickets })))
 
 pub returns-in-Sample-clause-begun : goal.returns-in-Sample-clause-begun
 returns-in-Sample-clause-begun g c = begun_at (λ o. CameTo g.S.Source o c.args.input.now c.args.input.now) _ _ (ap Some (sym c.in-Sample.is) ∙ sym c.in-Ok-Some.field-0-is ∙ c.in-Ok-Some.ensures.command)

@@ -22,7 +22,7 @@ returns-in-Err-TooLong g c =
     let got = c.in-Err-TooLong.ensures.refused in
     let reads = subst (λ (p : ReadError × ℕ). ReadsUpTo g.S.Source.left g.S.Source.gives g.S.Source.fails p.1 p.0 c.args.input.now c.read_document.new.source got.0) (λ i. (c.in-Err-TooLong.field-0-is i, c.row_of.ensures.limit i)) got.1 in
     line_begun _ (above got.0) (status.Refused too_long) (refusal_line too_long) _ (λ done. cc) reads (longer c.args.command got.0)
-    (subst (λ line. IsEndOfWriting g.K.Sink c.args.out.now c.end_with_line-in-Err-TooLong.new.out (status.Refused too_long) None None line c.end_with_line-in-Err-TooLong.result) too_long_line c.end_with_line-in-Err-TooLong.ensures.written)
+    (subst (λ line. IsEndOfWriting g.K.Sink c.args.out.now c.end_with_line-in-Err-TooLong.new.out (status.Refused too_long) None None None line c.end_with_line-in-Err-TooLong.result) too_long_line c.end_with_line-in-Err-TooLong.ensures.written)
 
 pub returns-in-Err-NoMemory : goal.returns-in-Err-NoMemory
 returns-in-Err-NoMemory g c =

@@ -1,5 +1,4 @@
 use Rattle.std.proofs.Common.{◌≤◌, length, subst, sym}
-use Rattle.action_eval.proofs.SharedRunner.{runner_sync}
 use Rattle.command_answers.specs.Commands.{limit_for}
 use Rattle.amoebot_run.proofs.Endings.{reported, told, one, one_unread, serves, served_unread, six_lines_written, no_command, no_command_at, at_read_fault, at_write_fault, without_memory}
 use Rattle.amoebot_run.proofs.Fronts.{reads_all}
@@ -12,7 +11,10 @@ pub returns-in-Ended-clause-ending : goal.returns-in-Ended-clause-ending
 returns-in-Ended-clause-ending g c = ended_of _ c.in-Ended.ensures.begun
 
 pub returns-in-Ended-clause-turns : goal.returns-in-Ended-clause-turns
-returns-in-Ended-clause-turns g c = its_turns _ c.in-Ended.ensures.begun
+returns-in-Ended-clause-turns g c = (its_turns _ c.in-Ended.ensures.begun).turns_there
+
+pub returns-in-Ended-clause-tickets : goal.returns-in-Ended-clause-tickets
+returns-in-Ended-clause-tickets g c = (its_turns _ c.in-Ended.ensures.begun).tickets_there
 
 pub returns-in-Ended-clause-report : goal.returns-in-Ended-clause-report
 returns-in-Ended-clause-report g c = reported c.reports_are_of_runs.ensures.exactly _ _ _ (returns-in-Ended-clause-ending g c)
@@ -52,20 +54,23 @@ returns-in-Ended-clause-sample g c = λ seed is. six_lines_written c.reports_are
 
 -- ---- workers run lists
 
-pub work-requires : goal.work-requires
-work-requires g c = (record { shared = c.type_bounds.sync-R.shared }, (record { shared = runner_sync.shared }, (record { shared = c.type_bounds.sync-G.shared }, (ready_of _ c.in-Run.ensures.begun).prepared.there)))
+pub make_turns-requires : goal.make_turns-requires
+make_turns-requires g c = (record { shared = c.type_bounds.sync-R.shared }, (record { shared = c.type_bounds.sync-G.shared }, (ready_of _ c.in-Run.ensures.begun).prepared.there))
 
 pub finish-requires-clause-good : goal.finish-requires-clause-good
-finish-requires-clause-good g c = from_first c.in-Run.prepared c.in-Ok.worked.report c.in-Ok.ensures.good
+finish-requires-clause-good g c = from_first c.in-Run.prepared c.in-Ok.made.report c.in-Ok.ensures.good
 
 pub finish-requires-clause-few : goal.finish-requires-clause-few
-finish-requires-clause-few g c = (ready_of _ c.in-Run.ensures.begun).prepared.few c.in-Ok.worked.report c.in-Ok.ensures.good
+finish-requires-clause-few g c = (ready_of _ c.in-Run.ensures.begun).prepared.few c.in-Ok.made.report c.in-Ok.ensures.good
 
 pub returns-in-Ok-clause-ending : goal.returns-in-Ok-clause-ending
-returns-in-Ok-clause-ending g c = finished g.K.Sink _ _ _ _ c.in-Run.prepared (ready_of _ c.in-Run.ensures.begun) c.in-Ok.worked.report c.in-Ok.worked.turns c.in-Ok.ensures.good c.in-Ok.ensures.reached c.in-Ok.ensures.turns _ c.finish.ensures
+returns-in-Ok-clause-ending g c = finished g.K.Sink _ _ _ _ c.in-Run.prepared (ready_of _ c.in-Run.ensures.begun) c.in-Ok.made c.in-Ok.ensures _ c.finish.ensures
 
 pub returns-in-Ok-clause-turns : goal.returns-in-Ok-clause-turns
-returns-in-Ok-clause-turns g c = finished_turns g.K.Sink _ _ _ _ c.in-Run.prepared (ready_of _ c.in-Run.ensures.begun) c.in-Ok.worked.report c.in-Ok.worked.turns c.in-Ok.ensures.good c.in-Ok.ensures.reached c.in-Ok.ensures.turns _ c.finish.ensures
+returns-in-Ok-clause-turns g c = (finished_turns g.K.Sink _ _ _ _ c.in-Run.prepared (ready_of _ c.in-Run.ensures.begun) c.in-Ok.made c.in-Ok.ensures _ c.finish.ensures).turns_there
+
+pub returns-in-Ok-clause-tickets : goal.returns-in-Ok-clause-tickets
+returns-in-Ok-clause-tickets g c = (finished_turns g.K.Sink _ _ _ _ c.in-Run.prepared (ready_of _ c.in-Run.ensures.begun) c.in-Ok.made c.in-Ok.ensures _ c.finish.ensures).tickets_there
 
 pub returns-in-Ok-clause-report : goal.returns-in-Ok-clause-report
 returns-in-Ok-clause-report g c = reported c.reports_are_of_runs.ensures.exactly _ _ _ (returns-in-Ok-clause-ending g c)

@@ -36,7 +36,10 @@ returns-in-Ok-clause-sample g c = λ seed is. elim (c.run.ensures.sample seed is
 ]
 
 pub returns-in-Err-clause-turns : goal.returns-in-Err-clause-turns
-returns-in-Err-clause-turns g c = without_turns _ _ c.end_with.ensures
+returns-in-Err-clause-turns g c = (without_turns _ _ c.end_with.ensures).turns_there
+
+pub returns-in-Err-clause-tickets : goal.returns-in-Err-clause-tickets
+returns-in-Err-clause-tickets g c = (without_turns _ _ c.end_with.ensures).tickets_there
 
 pub returns-in-Ok-clause-no_command : goal.returns-in-Ok-clause-no_command
 returns-in-Ok-clause-no_command g c = λ none. elim (c.run.ensures.no_command none) [ inl x ↦ inl x | inr x ↦ inr (unwritten_alone _ (λ e. not_risen (c.run.ensures.write_fault e)) x) ]

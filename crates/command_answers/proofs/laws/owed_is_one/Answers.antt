@@ -8,6 +8,7 @@ returns c =
       later = c.least_versions_are_kept.ensures.document;
       together = c.documents_fit.ensures;
       runs = c.run_text_is_one.ensures;
+      claimed = c.ticket_reached_is_reached.ensures;
       interleaves = c.interleave_text_is_one.ensures.text;
       replays = c.replay_is_decided.ensures;
       is_run = c.plain_run_is_run.ensures;

@@ -1,4 +1,4 @@
-use Rattle.std.proofs.Common.{ℕ, ap, ◌∙◌}
+use Rattle.std.proofs.Common.{ap, ◌∙◌}
 use Rattle.shape_files.specs.Views.{contents}
 use Rattle.command_runs.specs.Check.{check_text}
 use Rattle.command_words.specs.declared.command.DocumentCommand.TheVariants.{Check}

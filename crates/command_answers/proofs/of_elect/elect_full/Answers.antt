@@ -1,4 +1,3 @@
-use Rattle.std.proofs.Common.{◌∙◌, ap}
 use Rattle.std.proofs.lemmas.Result.{IfOk-weaker}
 use Rattle.command_answers.proofs.ElectLemmas.{tells_steps}
 use Rattle.command_answers.proofs.of_elect.elect_full.Goals as goal

@@ -1,4 +1,4 @@
-use Rattle.command_answers.proofs.Replayed.{Laws, run_texts_are_replayed, interleave_texts_are_replayed, what_is_owed_is_replayed}
+use Rattle.command_answers.proofs.Replayed.{Laws, run_texts_are_replayed, ticket_texts_are_replayed, interleave_texts_are_replayed, what_is_owed_is_replayed}
 use Rattle.command_answers.proofs.replay_laws.run_texts_are_replayed.Goals as goal
 
 pub returns : goal.returns
@@ -14,4 +14,4 @@ returns c =
       nine = c.zone_has_at_most_nine_bodies.ensures;
       plain_limits = c.plain_keeps_limits.ensures;
     } in
-    record { run = run_texts_are_replayed laws; interleave = interleave_texts_are_replayed laws; owed = what_is_owed_is_replayed laws }
+    record { run = run_texts_are_replayed laws; tickets = ticket_texts_are_replayed laws; interleave = interleave_texts_are_replayed laws; owed = what_is_owed_is_replayed laws }

@@ -26,7 +26,7 @@ loop-plain-preserved g c =
     let before = c.loop-plain.meter.state in
     let by = subst (λ d. GoesOnBy (g.D.Decider.verdict d) c.plain-item.result before c.follow.new.self.state) same c.in-Ok.ensures.goes_on in
     record {
-      run = (run.0 ++ by.entry ∷ [], told_more c.args.entries.now run.0 by.entry c.plain-item.result c.loop-plain.plain-index c.loop-plain-test.true c.plain-item.is run.1 by.plain, by.metered c.args.start run.0 run.2);
+      run = (run.0 ++ by.entry ∷ [], told_more c.args.entries.now run.0 by.entry c.plain-item.result c.loop-plain.plain-index c.loop-plain-test.true c.plain-item.is run.1 by.plain, by.on.metered c.args.start run.0 run.2);
       decider = c.in-Ok.ensures.decider ∙ same;
       size = c.in-Ok.ensures.size ∙ c.loop-plain.invariant.size;
     }

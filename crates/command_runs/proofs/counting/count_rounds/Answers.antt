@@ -17,7 +17,7 @@ loop-entry-preserved g c =
     let before = take c.loop-entry.entry-index c.args.entries.now in
     let same = c.loop-entry.invariant.decider in
     let metered = subst (λ d. IsMetered (g.D.Decider.verdict d) c.args.start before c.loop-entry.meter.state) (sym same) c.loop-entry.invariant.metered in
-    let fed = subst (λ d. IsMetered (g.D.Decider.verdict d) c.args.start (before ++ e ∷ []) c.feed.new.self.state) same (c.in-Ok.ensures.metered c.args.start before metered) in
+    let fed = subst (λ d. IsMetered (g.D.Decider.verdict d) c.args.start (before ++ e ∷ []) c.feed.new.self.state) same (c.in-Ok.ensures.goes_on.metered c.args.start before metered) in
     record {
       metered = fed_more (g.D.Decider.verdict c.args.decider.now) c.args.start c.args.entries.now c.feed.new.self.state c.loop-entry.entry-index e c.loop-entry-test.true c.entry-item.is fed;
       decider = c.in-Ok.ensures.decider ∙ same;

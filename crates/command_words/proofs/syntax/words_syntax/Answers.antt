@@ -16,6 +16,7 @@ returns c =
     let six = c.in_ok-subcommand-6.ensures.shape c.new-6.ensures.local ∙ ap₂ with_subcommand five (top c.new-6.ensures.app) in
     let seven = c.in_ok-subcommand-7.ensures.shape c.new-7.ensures.local ∙ ap₂ with_subcommand six (top c.new-7.ensures.app) in
     let eight = c.in_ok-subcommand-8.ensures.shape c.new-8.ensures.local ∙ ap₂ with_subcommand seven (top c.new-8.ensures.app) in
-    let nine = c.in_ok-subcommand-9.ensures.shape c.in_ok-with_argument.ensures.local ∙ ap₂ with_subcommand eight c.in_ok-with_argument.ensures.shape in
-    let ten = c.in_ok-subcommand-10.ensures.shape c.in_ok-with_argument-2.ensures.local ∙ ap₂ with_subcommand nine c.in_ok-with_argument-2.ensures.shape in
-    IfOk-weaker c.subcommand-11.result _ _ (λ r adds. adds.shape c.in_ok-with_argument-3.ensures.local ∙ ap₂ with_subcommand ten c.in_ok-with_argument-3.ensures.shape) c.subcommand-11.ensures
+    let nine = c.in_ok-subcommand-9.ensures.shape c.new-9.ensures.local ∙ ap₂ with_subcommand eight (top c.new-9.ensures.app) in
+    let ten = c.in_ok-subcommand-10.ensures.shape c.in_ok-with_argument.ensures.local ∙ ap₂ with_subcommand nine c.in_ok-with_argument.ensures.shape in
+    let eleven = c.in_ok-subcommand-11.ensures.shape c.in_ok-with_argument-2.ensures.local ∙ ap₂ with_subcommand ten c.in_ok-with_argument-2.ensures.shape in
+    IfOk-weaker c.subcommand-12.result _ _ (λ r adds. adds.shape c.in_ok-with_argument-3.ensures.local ∙ ap₂ with_subcommand eleven c.in_ok-with_argument-3.ensures.shape) c.subcommand-12.ensures

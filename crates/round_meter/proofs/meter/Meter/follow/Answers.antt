@@ -1,15 +1,12 @@
-use Rattle.std.proofs.Common.{◌∙◌, ap, refl, subst}
 use Rattle.serial_model.specs.Replays.{IsNoPlainStep}
-use Rattle.serial_model.proofs.PlainRuns.{no_plain_step}
-use Rattle.round_meter.specs.Meters.{MeterOf}
+use Rattle.serial_model.specs.declared.replays.Differs.{Differs}
+use Rattle.round_meter.proofs.MeterLemmas.{meter_differs}
 use Rattle.round_meter.proofs.meter.Meter.follow.Goals as goal
 
-pub returns-in_default-clause-differs : goal.returns-in_default-clause-differs
-returns-in_default-clause-differs g c =
-    let f = g.D.Decider.verdict c.self.inside.decider.now in
-    let plain = c.args.plain.now in (
-      ap (λ (m : MeterOf _). m.state.fed) c.self.view_is,
-      subst (λ (m : MeterOf _). IsNoPlainStep (g.D.Decider.verdict m.decider) m.state.world plain) c.self.view_is
-          (no_plain_step f c.self.inside.world plain (λ change decided told. c.in_default.ensures.none change told (ap f c.found-found.ensures.value ∙ decided))),
-      refl,
-    )
+pub returns-in-Some-clause-differs : goal.returns-in-Some-clause-differs
+returns-in-Some-clause-differs g c =
+    meter_differs c.follow.result (λ (e : Differs). e.place) (λ d m. IsNoPlainStep (g.D.Decider.verdict d) m.world c.args.plain.now) c.self.inside.decider.now c.self.inside.progress c.follow.new.self c.args.self.now c.self.view_is c.follow.ensures.differs
+
+pub returns-in-None-clause-differs : goal.returns-in-None-clause-differs
+returns-in-None-clause-differs g c =
+    meter_differs c.follow-in-None.result (λ (e : Differs). e.place) (λ d m. IsNoPlainStep (g.D.Decider.verdict d) m.world c.args.plain.now) c.self.inside.decider.now c.self.inside.progress c.follow-in-None.new.self c.args.self.now c.self.view_is c.follow-in-None.ensures.differs

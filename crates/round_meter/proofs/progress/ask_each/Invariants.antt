@@ -1,7 +1,7 @@
 use Rattle.std.proofs.Common.{◌≡◌, ◌+◌, take}
 use Rattle.std.specs.List.{fold}
 use Rattle.round_meter.specs.Asking.{asked_again}
-use Rattle.round_meter.proofs.meter.ask_each.Given as goal
+use Rattle.round_meter.proofs.progress.ask_each.Given as goal
 
 abbrev pub invariant-loop-id : goal.invariant-loop-id
 invariant-loop-id g l = record {

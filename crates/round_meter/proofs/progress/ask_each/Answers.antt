@@ -6,7 +6,7 @@ use Rattle.round_meter.specs.Meters.{standing_of}
 use Rattle.round_meter.specs.Tallies.{Tallied}
 use Rattle.round_meter.specs.Asking.{after_asking, asked_again}
 use Rattle.round_meter.proofs.StandingsLemmas.{length-asked}
-use Rattle.round_meter.proofs.meter.ask_each.Goals as goal
+use Rattle.round_meter.proofs.progress.ask_each.Goals as goal
 
 pub note-requires-clause-there : goal.note-requires-clause-there
 note-requires-clause-there g c =

@@ -5,7 +5,7 @@ use Rattle.round_meter.specs.Rounds.{is_change}
 use Rattle.round_meter.specs.Tallies.{Tallied}
 use Rattle.round_meter.specs.Asking.{first_standing, first_standings}
 use Rattle.round_meter.proofs.MeterLemmas.{length-first}
-use Rattle.round_meter.proofs.meter.first_tally.Goals as goal
+use Rattle.round_meter.proofs.progress.first_tally.Goals as goal
 
 pub push-requires : goal.push-requires
 push-requires g c =
@@ -22,7 +22,7 @@ loop-bot-preserved g c =
       standings =
           ap (λ (t : Tallied). t.standings) c.in_ok-push.ensures
           ∙ ap (λ ss. ss ++ standing c.is_enabled.result ∷ []) c.loop-bot.invariant.standings
-          ∙ ap (λ now. first_standings f world bot ++ standing now ∷ []) (c.is_enabled.ensures ∙ ap (λ s. is_change (f s)) c.found.ensures.value)
+          ∙ ap (λ now. first_standings f world bot ++ standing now ∷ []) (c.is_enabled.ensures ∙ ap (λ s. is_change (f s)) c.show.ensures)
           ∙ sym (map-range_with_len_more (first_standing f world) 0 bot bot (omega arith));
       rounds = ap (λ (t : Tallied). t.rounds) c.in_ok-push.ensures ∙ c.loop-bot.invariant.rounds;
     }

@@ -1,6 +1,6 @@
 use Rattle.std.proofs.Common.{◌≡◌}
 use Rattle.round_meter.specs.Asking.{first_standings}
-use Rattle.round_meter.proofs.meter.first_tally.Given as goal
+use Rattle.round_meter.proofs.progress.first_tally.Given as goal
 
 abbrev pub invariant-loop-bot : goal.invariant-loop-bot
 invariant-loop-bot g l = record {

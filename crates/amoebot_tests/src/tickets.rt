@@ -1,0 +1,132 @@
+//! The command `tickets`: documents of at most one list leave by it what they leave by `run`, and are refused as by `run`.
+
+use crate::faults::FAULTS;
+use crate::old_values::{RUNS as VERSIONED, check_by};
+use crate::pieces::{Fault, ONE, OUT, Row, TWO_TURNS};
+use crate::runs::{RUNS, WHOLE_PROGRAMS};
+use crate::tests::{check, joined, words};
+use crate::walls::{COMMANDS as WALLED, REFUSED};
+use amoebot_run::{Status, run_text};
+use outer_io::SureSink;
+use std::alloc::{AllocError, Global};
+use std::process::Abort;
+use std::sync::Wait;
+use std::test::Fail;
+use std::thread::Threads;
+use text_tokens::Refusal;
+
+/// The document of each row of `run` leaves the row's text.
+fn check_rows_by_tickets<R: Abort + Threads + Wait + Sync>(
+    rt: &R,
+    alloc: Global,
+    rows: &[Row],
+) -> Result<(), AllocError> {
+    for (word, pieces, status, entries, texts) in rows {
+        if *word == "run" {
+            let document = joined(alloc, pieces)?;
+            let text = joined(alloc, texts)?;
+            let bytes = document.as_bytes();
+            check(
+                rt,
+                alloc,
+                &["tickets"],
+                bytes,
+                *status,
+                *entries,
+                text.as_str(),
+            )?;
+        }
+    }
+    Ok(())
+}
+
+/// The document of each row of `run` is refused as the row says.
+fn check_faults_by_tickets<R: Abort + Threads + Wait + Sync>(
+    rt: &R,
+    alloc: Global,
+    faults: &[Fault],
+) -> Result<(), AllocError> {
+    for (word, pieces, line, kind, text) in faults {
+        if *word == "run" {
+            let document = joined(alloc, pieces)?;
+            let refusal = Refusal {
+                line: *line,
+                kind: *kind,
+            };
+            let status = Status::Refused(refusal);
+            check(
+                rt,
+                alloc,
+                &["tickets"],
+                document.as_bytes(),
+                status,
+                None,
+                text,
+            )?;
+        }
+    }
+    Ok(())
+}
+
+#[test]
+fn lists_are_run_by_tickets(rt: HostRuntime) -> Result<(), Fail> {
+    check_rows_by_tickets(&rt, rt.alloc(), &RUNS)?;
+    Ok(())
+}
+
+#[test]
+fn whole_programs_are_run_by_tickets(rt: HostRuntime) -> Result<(), Fail> {
+    check_rows_by_tickets(&rt, rt.alloc(), &WHOLE_PROGRAMS)?;
+    Ok(())
+}
+
+#[test]
+fn walls_stay_under_tickets(rt: HostRuntime) -> Result<(), Fail> {
+    check_rows_by_tickets(&rt, rt.alloc(), &WALLED)?;
+    Ok(())
+}
+
+#[test]
+fn tickets_refuse_what_run_refuses(rt: HostRuntime) -> Result<(), Fail> {
+    check_faults_by_tickets(&rt, rt.alloc(), &FAULTS)?;
+    check_faults_by_tickets(&rt, rt.alloc(), &REFUSED)?;
+    Ok(())
+}
+
+/// The journal has old values in version 3 alone.
+#[test]
+fn tickets_keep_the_version_of_the_document(rt: HostRuntime) -> Result<(), Fail> {
+    for run in &VERSIONED {
+        if run.0 == "run" {
+            for version in ["amoebot 1", "amoebot 2", "amoebot 3"] {
+                check_by(&rt, rt.alloc(), "tickets", version, run)?;
+            }
+        }
+    }
+    Ok(())
+}
+
+/// A document for each of the words below.
+const SCHEDULED: &[&str] = &[OUT, ONE, TWO_TURNS, "schedule\nend\n"];
+
+/// Whether turns come with a word, and whether tickets do.
+fn comes_with<R: Threads + Wait + Sync>(
+    rt: &R,
+    alloc: Global,
+    word: &str,
+) -> Result<(bool, bool), Fail> {
+    let document = joined(alloc, SCHEDULED)?;
+    let words = words(alloc, &[word])?;
+    let mut out = SureSink::new(alloc, 4096)?;
+    let ended = run_text(rt, alloc, words.as_slice(), document.as_bytes(), &mut out);
+    Ok((ended.turns.is_some(), ended.tickets.is_some()))
+}
+
+#[test]
+fn tickets_come_with_tickets_alone(rt: HostRuntime) -> Result<(), Fail> {
+    assert_eq!(rt; comes_with(&rt, rt.alloc(), "run")?, (true, false));
+    assert_eq!(rt; comes_with(&rt, rt.alloc(), "tickets")?, (false, true));
+    assert_eq!(rt; comes_with(&rt, rt.alloc(), "interleave")?, (false, false));
+    assert_eq!(rt; comes_with(&rt, rt.alloc(), "check")?, (false, false));
+    Ok(())
+}
