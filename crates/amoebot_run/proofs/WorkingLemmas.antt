@@ -1,5 +1,5 @@
 -- Which calls have turns, and in which of the two places.
-use Rattle.std.proofs.Common.{◌≡◌, ℕ, List, Option, Some, None, refl, sym, subst, ap, ◌∙◌}
+use Rattle.std.proofs.Common.{◌≡◌, ℕ, List, Option, Some, None, refl, sym, subst}
 use Rattle.std.proofs.lemmas.Bool.{false≢true}
 use Rattle.claim_core.specs.declared.report.Report.{Report}
 use Rattle.outer_io.specs.declared.writing.Sink.{Ghosts as SinkOf}

@@ -1,4 +1,3 @@
-use Rattle.std.proofs.Common.{refl}
 use Rattle.action_eval.proofs.SharedRunner.{runner_sync}
 use Rattle.amoebot_run.proofs.making.make_turns.Goals as goal
 
