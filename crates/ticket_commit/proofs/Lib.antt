@@ -1,4 +1,5 @@
-pub mod DrawnLists
+pub mod Unpacking
+pub mod EntryLists
 pub mod MergeSteps
 pub mod OwnMerges
 pub mod OwnLemmas

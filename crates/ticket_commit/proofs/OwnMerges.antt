@@ -15,8 +15,8 @@ module _ (g : Setup) (s : State) (sound : Sound g s) (lists : List (List (ℕ ×
   pub own_lists_are : IsMerge lists s.journal
   own_lists_are = record { own = own; listed = All-weaker (IsListed g.lists) (λ (e : Entry). e.caller < length lists) (λ e is. let lt = is.caller in omega (arith, lt, as_many)) s.journal sound.order.listed }
 
-  pub own_lists_merge : IsSetup g → (spare : ℕ) → all_turns g.lists ≤ spare → HasMerge lists spare
+  pub own_lists_merge : IsSetup g → (spare : ℕ) → all_turns g.lists ≤ spare → HasMerge g.verdict g.world lists spare
   own_lists_merge ok spare room =
       let few = order_is_few g.lists s.journal sound.order in
       let all = ok.lists.few.in_all in
-      record { journal = s.journal; merge = own_lists_are; room = omega (arith, few, room); few = omega (arith, few, all) }
+      record { journal = s.journal; merge = own_lists_are; last = sound.last; run = sound.run; room = omega (arith, few, room); few = omega (arith, few, all) }

@@ -1,4 +1,5 @@
 pub mod OwnLists
+pub mod Packed
 pub mod Own
 pub mod Laws
 pub use Rattle.amoebot_state.specs.Configs

@@ -1,20 +1,30 @@
 -- The lists in which callers keep what they committed, as contracts see them.
-use Rattle.std.specs.Prelude.{◌≡◌, ◌≢◌, ℕ, ◌<◌, ◌≤◌, List, length, slice_get}
+use Rattle.std.specs.Prelude.{◌≡◌, ◌≢◌, ℕ, ◌<◌, ◌≤◌, List, length, map, slice_get}
 use Rattle.std.specs.declared.option.Option.{Option}
 use Rattle.std.specs.declared.option.Option.TheVariants.{Some, None}
 use Rattle.amoebot_state.specs.declared.verdict.Entry.{Entry}
+use Rattle.amoebot_state.specs.declared.verdict.Verdict.{Verdict}
+use Rattle.amoebot_state.specs.Configs.{Config}
+use Rattle.amoebot_state.specs.Steps.{Run}
+use Rattle.amoebot_state.specs.Zones.{Shown}
 use Rattle.claim_core.specs.Limits.{most_turns}
 use Rattle.claim_core.specs.Merges.{own_of, IsMerge}
-use Rattle.ticket_commit.specs.declared.merging.Drawn.{Drawn}
 
--- an entry with the place that it drew
-abbrev pub drawn_pair : Drawn → ℕ × Entry
-drawn_pair d = (d.place, d.entry)
+-- an own list: its entries, each with the place that it drew, and the number of entries for which there is room behind them
+pub record OwnEntries : Type 0 where
+  pub entries : List (ℕ × Entry)
+  pub room : ℕ
 
--- the lists have a merge, for which there is so much room
-pub record HasMerge (lists : List (List (ℕ × Entry))) (spare : ℕ) : Type 0 where
+-- the entries of each list
+abbrev pub entry_lists : List OwnEntries → List (List (ℕ × Entry))
+entry_lists lists = map (λ (own : OwnEntries). own.entries) lists
+
+-- the lists have a merge, for which there is so much room, and its entries are a run from this world on
+pub record HasMerge (f : Shown → Verdict) (world : Config) (lists : List (List (ℕ × Entry))) (spare : ℕ) : Type 0 where
   pub journal : List Entry
   pub merge : IsMerge lists journal
+  pub last : Config
+  pub run : Run f world journal last
   pub room : length journal ≤ spare
   pub few : length journal ≤ most_turns
 

@@ -4,7 +4,6 @@ ghost use Rattle.claim_rule.specs.Tokens.{IsOf, doing};
 ghost use Rattle.node_claims.specs.Answers.{HasAnswered, caller_of, turn_of, mark_of};
 
 use crate::field::TicketField;
-use crate::merging::Drawn;
 use crate::seat::TicketSeat;
 use activation::Gate;
 use amoebot_state::{Decider, Verdict};
@@ -78,9 +77,8 @@ pub fn activate_ticket<D: Decider, G: Gate>(
     gate.claimed(caller, turn);
     match field.field.decider().decide(claimed.found()) {
         Verdict::Change(change) => {
-            let (settled, receipt, entry) = draw(claimed, &field.field, change);
-            let place = receipt.place();
-            own.push_reserved(Drawn { place, entry });
+            let (settled, receipt) = draw(claimed, &field.field, &change);
+            own.push(receipt.place(), caller, turn, bot, &change);
             let seat = release_settled(settled, &field.field);
             let answer = Turn::Done(receipt);
             (TicketSeat { seat, own }, TicketTurn { answer })

@@ -4,14 +4,12 @@ ghost use Rattle.amoebot_state.specs.Configs.{bot_at};
 ghost use Rattle.claim_rule.specs.Views.{field_terms};
 ghost use Rattle.claim_rule.specs.Opened.{first_seats};
 
-use crate::merging::Drawn;
 use crate::own::own_lists;
 use crate::seats::TicketSeats;
 use amoebot_state::{Decider, NoMemory, World};
 use claim_core::{Journal, Lists};
 use claim_rule::{ByTicket, Field};
 use std::alloc::Global;
-use std::collections::VecDeque;
 use std::marker::Model;
 
 /// A field whose callers draw the places of their commits, and all memory that its end needs. While they work there is no journal. It is
@@ -21,12 +19,9 @@ pub struct TicketField<'d, D: Decider> {
     pub(crate) field: Field<'d, D, ByTicket>,
     /// What `close` fills: it has the first world, no entry, and room for those of all turns.
     pub(crate) journal: Journal,
-    /// Room for the own lists of all callers.
-    pub(crate) queues: Vec<VecDeque<Drawn>>,
 }
 
 impl<'d, D: Decider> Model for TicketField<'d, D> {
-    ghost use Rattle.std.specs.Prelude.{vec_capacity};
     ghost use Rattle.claim_rule.specs.Tokens.{FieldOf};
     ghost use Rattle.ticket_commit.specs.Own.{HasMergeRoom};
 
@@ -34,7 +29,7 @@ impl<'d, D: Decider> Model for TicketField<'d, D> {
 
     ghost view = { λ f. f.field };
 
-    ghost invariant = { λ f. HasMergeRoom f.field f.journal f.queues.items (vec_capacity f.queues) };
+    ghost invariant = { λ f. HasMergeRoom f.field f.journal };
 }
 
 impl<'d, D: Decider> TicketField<'d, D> {
@@ -54,15 +49,12 @@ impl<'d, D: Decider> TicketField<'d, D> {
     {
         let mut journal = Journal::make(alloc, &world)?;
         journal.reserve(alloc, lists.all_turns())?;
-        let queues = Vec::with_capacity(alloc, usize::from(lists.callers()))?;
         let own = own_lists(alloc, lists.callers(), lists.turns())?;
         let (field, seats) = Field::make_tickets(alloc, decider, world, lists)?;
-        let field = TicketField {
-            field,
-            journal,
-            queues,
-        };
-        Ok((field, TicketSeats { seats, own }))
+        Ok((
+            TicketField { field, journal },
+            TicketSeats { seats, own },
+        ))
     }
 
     /// The decider that `make` was given.

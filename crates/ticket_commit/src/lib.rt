@@ -16,8 +16,7 @@ mod working;
 
 pub use activating::{TicketTurn, activate_ticket};
 pub use field::TicketField;
-pub use laws::own_list_is_one;
-pub use merging::{Drawn, merge};
+pub use laws::{own_list_is_one, own_list_is_unpacked};
 pub use seat::TicketSeat;
 pub use seats::TicketSeats;
 pub use turns::TicketTurns;

@@ -1,7 +1,7 @@
 ghost use Rattle.std.specs.Prelude.{◌≡◌};
 ghost use Rattle.claim_rule.specs.Tokens.{number_in, doing};
 
-use crate::merging::Drawn;
+use crate::own::OwnList;
 use amoebot_state::Decider;
 use claim_rule::{ByTicket, Seat};
 use std::marker::Model;
@@ -11,11 +11,10 @@ use std::marker::Model;
 #[derive(Drop)]
 pub struct TicketSeat<D: Decider> {
     pub(crate) seat: Seat<D, ByTicket>,
-    pub(crate) own: Vec<Drawn>,
+    pub(crate) own: OwnList,
 }
 
 impl<D: Decider> Model for TicketSeat<D> {
-    ghost use Rattle.std.specs.Prelude.{vec_capacity};
     ghost use Rattle.claim_rule.specs.Tokens.{Token};
     ghost use Rattle.ticket_commit.specs.Own.{KeepsOwn};
 
@@ -23,7 +22,7 @@ impl<D: Decider> Model for TicketSeat<D> {
 
     ghost view = { λ s. s.seat };
 
-    ghost invariant = { λ s. KeepsOwn D.verdict s.seat s.own.items (vec_capacity s.own) };
+    ghost invariant = { λ s. KeepsOwn D.verdict s.seat s.own.entries s.own.room };
 }
 
 impl<D: Decider> TicketSeat<D> {

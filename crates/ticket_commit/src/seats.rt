@@ -3,7 +3,7 @@ ghost use Rattle.std.specs.List.{All};
 ghost use Rattle.claim_rule.specs.Tokens.{number_in};
 ghost use Rattle.claim_rule.specs.Seating.{IsFirst};
 
-use crate::merging::Drawn;
+use crate::own::OwnList;
 use crate::seat::TicketSeat;
 use amoebot_state::Decider;
 use claim_rule::{ByTicket, Seats};
@@ -16,7 +16,7 @@ use std::mem::replace;
 pub struct TicketSeats<D: Decider> {
     pub(crate) seats: Seats<D, ByTicket>,
     /// The own lists by the callers' numbers. Where a seat was given out, its list is with it, and an empty one is in its place.
-    pub(crate) own: Vec<Vec<Drawn>>,
+    pub(crate) own: Vec<OwnList>,
 }
 
 impl<D: Decider> Model for TicketSeats<D> {
@@ -40,7 +40,7 @@ impl<D: Decider> TicketSeats<D> {
         ensures stays { result ≡ None → self.new ≡ self.old }
     {
         let seat = self.seats.take()?;
-        let none = Vec::new(*self.own.allocator());
+        let none = OwnList::none(*self.own.allocator());
         let own = replace(&mut self.own[usize::from(seat.caller())], none);
         Some(TicketSeat { seat, own })
     }

@@ -1,16 +1,13 @@
-use Rattle.std.proofs.Common.{◌≡◌, List, ◌++◌, map}
-use Rattle.amoebot_state.specs.declared.verdict.Entry.{Entry}
-use Rattle.claim_core.specs.Merges.{IsMerge}
-use Rattle.ticket_commit.specs.OwnLists.{drawn_pair}
-use Rattle.ticket_commit.proofs.MergeSteps.{AreMerging}
+use Rattle.std.proofs.Common.{◌≡◌}
+use Rattle.ticket_commit.specs.OwnLists.{entry_lists}
+use Rattle.ticket_commit.proofs.MergeSteps.{IsMerging}
 use Rattle.ticket_commit.proofs.merging.merge.Given as goal
 
--- what is left of the merge is in the lists, and what is not is in the journal
+-- what is left of the merge is in the lists, and what is not is in the journal and in the world
 abbrev pub invariant-loop-caller : goal.invariant-loop-caller
-invariant-loop-caller l =
+invariant-loop-caller g l =
     (l.journal.first ≡ l.fn.journal.first)
-    × ((all : List Entry) × ((merged : List Entry) → IsMerge (map (λ own. map drawn_pair own.items) l.fn.lists) merged → l.fn.journal.entries ++ merged ≡ all)
-    × AreMerging all (map (λ own. map drawn_pair own.items) l.lists) l.place l.journal.spare l.journal.entries)
+    × IsMerging (g.D.Decider.verdict l._decider) (entry_lists l.fn.lists) l.fn.world l.fn.journal.entries (entry_lists l.lists) l.place l.journal.spare l.world l.journal.entries
 
 abbrev pub decreases-loop-caller : goal.decreases-loop-caller
-decreases-loop-caller l = l.journal.spare
+decreases-loop-caller g l = l.journal.spare
