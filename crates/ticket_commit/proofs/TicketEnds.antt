@@ -82,7 +82,7 @@ module _ {D : Type 0} (verdict : D → Shown → Verdict) (z : Terms D) (ok : Is
   -- and the merge of what the seats know is
   pub merge_at_seats : IsMerge (map own_at_seat seats.seats) core.journal
   merge_at_seats =
-      let n = length-map seats.seats (own_at_seat {D}) in
+      let n = length-map seats.seats (own_at_seat {D = D}) in
       own_lists_are g core sound (map own_at_seat seats.seats) (n ∙ count) (λ c lt.
           let seat = seat_at c (omega (arith, lt, n)) in
           get_or_from_slice_get (map own_at_seat seats.seats) c (map placed (record_in seat.0).committed) [] (get-map own_at_seat seats.seats c (Some seat.0) seat.1) ∙ seat.2)

@@ -51,10 +51,8 @@ impl<'d, D: Decider> TicketField<'d, D> {
         journal.reserve(alloc, lists.all_turns())?;
         let own = own_lists(alloc, lists.callers(), lists.turns())?;
         let (field, seats) = Field::make_tickets(alloc, decider, world, lists)?;
-        Ok((
-            TicketField { field, journal },
-            TicketSeats { seats, own },
-        ))
+        let field = TicketField { field, journal };
+        Ok((field, TicketSeats { seats, own }))
     }
 
     /// The decider that `make` was given.

@@ -35,38 +35,39 @@ merge-requires-after_bounds g c = λ κs within.
     (has_merge g.D.Decider.verdict c.self.inside.field.terms end.run c.seats.inside.seats (its g at) (all g at) end.leaves c.seats.inside.own.items c.seats.invariant c.self.inside.journal.spare c.self.invariant.room)
 
 -- what was merged is the journal of the state that the callers have come to
-journal : (g : Over) (c : After-merge g) → List Entry
+abbrev journal : (g : Over) → After-merge g → List Entry
 journal g c = (ticket_after (setup_of_terms g.D.Decider.verdict c.self.inside.field.terms) c.end_tickets-world.ensures.leaves.steps).journal
 
-is_merge : (g : Over) (c : After-merge g) (at : After-as_mut_slice g) → IsMerge (entry_lists c.as_mut_slice.result.now) (journal g c)
-is_merge g c at =
-    let end = c.end_tickets-world.ensures in
-    subst (λ (lists : List OwnEntries). IsMerge (entry_lists lists) (journal g c)) (sym c.as_mut_slice.ensures.value)
-    (merge_is g.D.Decider.verdict c.self.inside.field.terms end.run c.seats.inside.seats (its g at) (all g at) end.leaves c.seats.inside.own.items c.seats.invariant)
+module _ (g : Over) (c : After-merge g) (terms : c.seats.inside.seats.terms ≡ Some c.self.inside.field.terms) (there : All (λ seat. IsSome seat) c.seats.inside.seats.seats) where
+  is_merge : IsMerge (entry_lists c.as_mut_slice.result.now) (journal g c)
+  is_merge =
+      let end = c.end_tickets-world.ensures in
+      subst (λ (lists : List OwnEntries). IsMerge (entry_lists lists) (journal g c)) (sym c.as_mut_slice.ensures.value)
+      (merge_is g.D.Decider.verdict c.self.inside.field.terms end.run c.seats.inside.seats terms there end.leaves c.seats.inside.own.items c.seats.invariant)
 
-entries : (g : Over) (c : After-merge g) (at : After-as_mut_slice g) → c.merge.new.journal.entries ≡ journal g c
-entries g c at = c.merge.ensures.entries (journal g c) (is_merge g c at) ∙ ap (λ (es : List Entry). es ++ journal g c) c.self.invariant.none
+  entries : c.merge.new.journal.entries ≡ journal g c
+  entries = c.merge.ensures.entries (journal g c) is_merge ∙ ap (λ (es : List Entry). es ++ journal g c) c.self.invariant.none
 
--- what the field leaves
-ends : (g : Over) (c : After-merge g) (at : After-as_mut_slice g) → ClosesAs by_ticket g.D.Decider.verdict c.self.inside.field.terms c.seats.inside.seats.seats c.merge.new.world c.merge.new.journal
-ends g c at =
-    let end = c.end_tickets-world.ensures in
-    closes g.D.Decider.verdict c.self.inside.field.terms end.run c.seats.inside.seats (its g at) (all g at) end.leaves c.seats.inside.own.items c.seats.invariant
-    c.merge.new.journal (c.merge.ensures.first ∙ c.self.invariant.first) (entries g c at) c.merge.new.world
-    (subst (λ (q : g.row.D.Denot × Config). Run (g.D.Decider.verdict q.0) q.1 (journal g c) c.merge.new.world) (λ i. (end.decider i, end.world i)) (c.merge.ensures.world (journal g c) (is_merge g c at)))
+  -- what the field leaves
+  ends : ClosesAs by_ticket g.D.Decider.verdict c.self.inside.field.terms c.seats.inside.seats.seats c.merge.new.world c.merge.new.journal
+  ends =
+      let end = c.end_tickets-world.ensures in
+      closes g.D.Decider.verdict c.self.inside.field.terms end.run c.seats.inside.seats terms there end.leaves c.seats.inside.own.items c.seats.invariant
+      c.merge.new.journal (c.merge.ensures.first ∙ c.self.invariant.first) entries c.merge.new.world
+      (subst (λ (q : g.row.D.Denot × Config). Run (g.D.Decider.verdict q.0) q.1 (journal g c) c.merge.new.world) (λ i. (end.decider i, end.world i)) (c.merge.ensures.world (journal g c) is_merge))
 
 pub returns-clause-closes : goal.returns-clause-closes
 returns-clause-closes g c =
     let at = goal.at.returns-clause-closes g c in
     subst (λ (p : FieldOf g.row.D.Denot × SeatsOf g.row.D.Denot). ClosesAs by_ticket g.D.Decider.verdict p.0.terms p.1.seats c.merge.new.world c.merge.new.journal) (λ i. (c.self.view_is i, c.seats.view_is i))
-    (ends g at.After-merge at.After-as_mut_slice)
+    (ends g at.After-merge (its g at.After-as_mut_slice) (all g at.After-as_mut_slice))
 
 pub returns-clause-merged : goal.returns-clause-merged
 returns-clause-merged g c =
     let at = goal.at.returns-clause-merged g c in
     let end = c.end_tickets-world.ensures in
     let is = merge_at_seats g.D.Decider.verdict c.self.inside.field.terms end.run c.seats.inside.seats (its g at.After-as_mut_slice) (all g at.After-as_mut_slice) end.leaves c.seats.inside.own.items c.seats.invariant in
-    subst (λ (p : SeatsOf g.row.D.Denot × List Entry). IsMerge (map own_at_seat p.0.seats) p.1) (λ i. (c.seats.view_is i, sym (entries g at.After-merge at.After-as_mut_slice) i)) is
+    subst (λ (p : SeatsOf g.row.D.Denot × List Entry). IsMerge (map own_at_seat p.0.seats) p.1) (λ i. (c.seats.view_is i, sym (entries g at.After-merge (its g at.After-as_mut_slice) (all g at.After-as_mut_slice)) i)) is
 
 pub returns-clause-right : goal.returns-clause-right
 returns-clause-right g c =
@@ -74,4 +75,4 @@ returns-clause-right g c =
     let end = c.end_tickets-world.ensures in
     let many = count g.D.Decider.verdict c.self.inside.field.terms end.run c.seats.inside.seats (its g at.After-as_mut_slice) (all g at.After-as_mut_slice) end.leaves c.seats.inside.own.items c.seats.invariant in
     subst (λ (p : FieldOf g.row.D.Denot × SeatsOf g.row.D.Denot). EndsRight g.D.Decider.verdict p.0.terms p.1.seats c.merge.new.world c.merge.new.journal) (λ i. (c.self.view_is i, c.seats.view_is i))
-    (field_ends_right by_ticket g.D.Decider.verdict c.self.inside.field.terms c.seats.inside.seats.seats c.merge.new.world c.merge.new.journal end.run many (all g at.After-as_mut_slice) end.rests (ends g at.After-merge at.After-as_mut_slice))
+    (field_ends_right by_ticket g.D.Decider.verdict c.self.inside.field.terms c.seats.inside.seats.seats c.merge.new.world c.merge.new.journal end.run many (all g at.After-as_mut_slice) end.rests (ends g at.After-merge (its g at.After-as_mut_slice) (all g at.After-as_mut_slice)))

@@ -9,6 +9,6 @@ invariant_of-result g c =
     let field = c.in_ok-field.field in
     let terms = c.in_ok-field.ensures.terms in
     first_own_lists g.D.Decider.verdict field c.in_ok-field.seats c.in_ok-field.ensures.seats c.in_ok-own.own.items c.turns.result
-    (c.in_ok-own.ensures.count ∙ c.callers-2.ensures.value ∙ ap (λ (z : Terms g.row.D.Denot). length z.lists.ids) (sym terms))
+    (c.in_ok-own.ensures.count ∙ c.callers.ensures.value ∙ ap (λ (z : Terms g.row.D.Denot). length z.lists.ids) (sym terms))
     (c.turns.ensures ∙ ap (λ (z : Terms g.row.D.Denot). z.lists.turns) (sym terms))
     c.in_ok-own.ensures.each
