@@ -1,6 +1,5 @@
 -- What is left once all turns are made and the field is closed.
-use Rattle.std.proofs.Common.{◌≡◌, List, [], ◌∷◌, map, length, Vec, Global, ap, sym, refl, ◌∙◌, subst}
-use Rattle.std.proofs.lemmas.List.{map-id}
+use Rattle.std.proofs.Common.{◌≡◌, List, subst}
 use Rattle.amoebot_state.specs.declared.verdict.Verdict.{Verdict}
 use Rattle.amoebot_state.specs.Configs.{Config}
 use Rattle.amoebot_state.specs.Zones.{Shown}
@@ -16,11 +15,11 @@ use Rattle.claim_rule.specs.declared.manner.ByTicket.{ByTicket}
 use Rattle.claim_rule.specs.declared.views.Terms.{Terms}
 use Rattle.claim_rule.specs.Manners.{by_ticket}
 use Rattle.claim_rule.specs.Seating.{SeatsOf}
-use Rattle.claim_rule.specs.Closing.{ClosesAs, marks_at_seat}
+use Rattle.claim_rule.specs.Closing.{ClosesAs}
 use Rattle.claim_rule.specs.Laws as laws
 use Rattle.node_claims.specs.declared.turn.Turn.{Turn}
 use Rattle.turn_desks.specs.Desks.{AreAllMade}
-use Rattle.turn_desks.specs.Turns.{lists_told}
+use Rattle.turn_desks.proofs.MadeTurns.{of_all_made}
 
 -- what a report is that commits which draw their places give
 abbrev pub IsTicketReport : {D : Type 0} → (D → Shown → Verdict) → Terms D → Report → Type 0
@@ -30,12 +29,5 @@ pub is_ticket_report : {D : Type 0} (verdict : D → Shown → Verdict) (f : Fie
     → (z : Terms D) → f.terms ≡ z → laws.EndedTicketsAreReached verdict → IsSetup (setup_of_terms verdict z) → (world : Config) (journal : Kept) → ClosesAs by_ticket verdict f.terms seats.seats world journal
     → IsTicketReport verdict z (record { world = world; journal = journal; turns = marks })
 is_ticket_report {D} verdict f seats marks turns made z terms law run world journal closes =
-    let count = made.count ∙ ap (λ (y : Terms D). length y.lists.ids) terms in
-    let report = law z seats.seats world journal run count made.there made.ended (subst (λ (y : Terms D). ClosesAs by_ticket verdict y seats.seats world journal) terms closes) in
-    let same : record { turns = z.lists.turns; marks = map marks_at_seat seats.seats } ≡ marks = sym (made.marks ∙ ap (λ (y : Terms D). record { turns = y.lists.turns; marks = map marks_at_seat seats.seats }) terms) in
-    subst (λ (ms : MarkLists). IsTicketReport verdict z (record { world = world; journal = journal; turns = ms })) same report
-
--- where the answers are the turns themselves
-pub told_is : (turns : List (Vec (Turn ByTicket) Global)) → lists_told (λ turn. turn) turns ≡ map (λ own. own.items) turns
-told_is [] = refl
-told_is (own ∷ turns) = λ i. map-id own.items i ∷ told_is turns i
+    of_all_made f seats marks turns made z terms (λ ms. IsTicketReport verdict z (record { world = world; journal = journal; turns = ms }))
+    (λ count there ended. law z seats.seats world journal run count there ended (subst (λ (y : Terms D). ClosesAs by_ticket verdict y seats.seats world journal) terms closes))

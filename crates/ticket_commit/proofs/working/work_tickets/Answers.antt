@@ -14,8 +14,8 @@ use Rattle.claim_rule.specs.declared.manner.ByTicket.{ByTicket}
 use Rattle.node_claims.specs.declared.turn.Turn.{Turn}
 use Rattle.turn_desks.specs.Turns.{AreTurnsOf, lists_told, marks_in}
 use Rattle.turn_desks.specs.Desks.{AreClear, AreTaken, AreAllMade, HaveMade, seat_at, turns_at}
-use Rattle.turn_desks.proofs.MadeTurns.{first_have, are_taken, all_turns, are_made, written, as_many}
-use Rattle.ticket_commit.proofs.TicketReports.{is_ticket_report, told_is}
+use Rattle.turn_desks.proofs.MadeTurns.{first_have, are_taken, all_turns, are_made, told_is, written, as_many}
+use Rattle.ticket_commit.proofs.TicketReports.{is_ticket_report}
 use Rattle.ticket_commit.proofs.working.work_tickets.Given.{Over}
 use Rattle.ticket_commit.proofs.working.work_tickets.Goals.{After-activate_all, After-copy_marks}
 use Rattle.ticket_commit.proofs.working.work_tickets.Goals as goal
