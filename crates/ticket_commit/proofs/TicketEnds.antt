@@ -84,8 +84,8 @@ module _ {D : Type 0} (verdict : D → Shown → Verdict) (z : Terms D) (ok : Is
   merge_at_seats =
       let n = length-map seats.seats (own_at_seat {D = D}) in
       own_lists_are g core sound (map own_at_seat seats.seats) (n ∙ count) (λ c lt.
-          let seat = seat_at c (omega (arith, lt, n)) in
-          get_or_from_slice_get (map own_at_seat seats.seats) c (map placed (record_in seat.0).committed) [] (get-map own_at_seat seats.seats c (Some seat.0) seat.1) ∙ seat.2)
+      let seat = seat_at c (omega (arith, lt, n)) in
+      get_or_from_slice_get (map own_at_seat seats.seats) c (map placed (record_in seat.0).committed) [] (get-map own_at_seat seats.seats c (Some seat.0) seat.1) ∙ seat.2)
 
   -- with this journal and the last world of its run the field has ended as it does
   pub closes : (journal : Kept) → journal.first ≡ z.world → journal.entries ≡ core.journal → (world : Config) → Run g.verdict g.world core.journal world → ClosesAs by_ticket verdict z seats.seats world journal

@@ -1,14 +1,13 @@
 -- The entries of heads: one more behind them, and the first one.
-use Rattle.std.proofs.Common.{◌≡◌, ℕ, ◌+◌, ◌-◌, ◌<◌, ◌≤◌, List, [], ◌∷◌, ◌++◌, map, length, take, drop, get_or, nat_eq, Bool, true, false, ◌&&◌, Some, ap, sym, refl, ◌∙◌, arith, eq-eqb}
+use Rattle.std.proofs.Common.{◌≡◌, ℕ, ◌+◌, ◌-◌, ◌<◌, ◌≤◌, List, [], ◌∷◌, ◌++◌, length, take, drop, get_or, nat_eq, Bool, true, false, ◌&&◌, Some, ap, sym, refl, ◌∙◌, arith, eq-eqb}
 use Rattle.std.specs.Prelude.{slice_get, slice_range, IsTrue}
 use Rattle.std.specs.List.{All, list_all}
 use Rattle.std.proofs.lemmas.Bool.{eqb-true, false≢true}
-use Rattle.std.proofs.lemmas.List.{map-append, length-map, length-drop, length-append, drop_at, drop_all, drop_more, drop-drop, drop-append-le, take_all, take-append-le, take-append-drop, get_or-map}
-use Rattle.std.proofs.lemmas.List.Elements.{All-head, All-tail, All-push, All-weaker}
+use Rattle.std.proofs.lemmas.List.{map-append, length-map, length-drop, drop_at, drop_all, drop_more, drop-append-le, take_all, take-append-le, take-append-drop, get_or-map}
+use Rattle.std.proofs.lemmas.List.Elements.{All-head, All-tail}
 use Rattle.std.proofs.lemmas.List.Folds.{list_all-append}
 use Rattle.std.proofs.lemmas.Option.{same_Some, none-some}
 use Rattle.amoebot_state.specs.declared.verdict.Entry.{Entry}
-use Rattle.amoebot_state.specs.Limits.{most_pairs}
 use Rattle.amoebot_state.specs.Pairs.{CellChange, Triples, is_alike, triples_alike}
 use Rattle.ticket_commit.specs.declared.own.Head.{Head}
 use Rattle.ticket_commit.specs.OwnLists.{BeginsAt}

@@ -43,8 +43,8 @@ impl Model for OwnList {
     ghost Value = { OwnEntries };
 
     ghost view = { λ o. record {
-        entries = drop o.taken (unpacked o.heads.items o.triples.items);
-        room = vec_capacity o.heads - vec_len o.heads;
+      entries = drop o.taken (unpacked o.heads.items o.triples.items);
+      room = vec_capacity o.heads - vec_len o.heads;
     } };
 
     ghost invariant = { λ o. IsPacked o.heads o.triples o.taken };

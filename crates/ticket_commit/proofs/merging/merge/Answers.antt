@@ -1,4 +1,4 @@
-use Rattle.std.proofs.Common.{◌≡◌, ℕ, ◌+◌, ◌<◌, List, Some, length, set, drop, ap, sym, refl, subst, ◌∙◌, arith}
+use Rattle.std.proofs.Common.{◌≡◌, ℕ, ◌+◌, ◌<◌, List, Some, length, drop, ap, sym, refl, subst, ◌∙◌, arith}
 use Rattle.std.specs.Prelude.{slice_get}
 use Rattle.std.proofs.lemmas.List.{length-map}
 use Rattle.std.proofs.lemmas.Option.{same_Some}
@@ -25,7 +25,7 @@ inside g c = let many = length-map {B = List (ℕ × Entry)} c.loop-caller.lists
 -- whose first entry is the next one
 next : (g : Over) (c : After-take-entry g)
     → IsTaken (g.D.Decider.verdict c.args._decider.now) (entry_lists c.args.lists.now) c.args.world.now c.args.journal.now.entries (entry_lists c.loop-caller.lists) c.loop-caller.place c.loop-caller.journal.spare c.loop-caller.world c.loop-caller.journal.entries
-      c.loop-caller.invariant.1 c.in-Some.caller c.take-entry.result
+    c.loop-caller.invariant.1 c.in-Some.caller c.take-entry.result
 next g c =
     let begins = c.in-Some.ensures.1 in
     let first = c.take-entry.ensures.first in
@@ -49,7 +49,7 @@ loop-caller-preserved g c =
       c.push.ensures.first ∙ c.loop-caller.invariant.0,
       subst
           (λ (z : List (List (ℕ × Entry)) × List Entry).
-            IsMerging (g.D.Decider.verdict c.args._decider.now) (entry_lists c.args.lists.now) c.args.world.now c.args.journal.now.entries z.0 (c.loop-caller.place + 1) c.push.new.self.spare c.apply.new.self z.1)
+          IsMerging (g.D.Decider.verdict c.args._decider.now) (entry_lists c.args.lists.now) c.args.world.now c.args.journal.now.entries z.0 (c.loop-caller.place + 1) c.push.new.self.spare c.apply.new.self z.1)
           (λ i. (sym lists i, sym c.push.ensures.entries i)) goes,
     )
 

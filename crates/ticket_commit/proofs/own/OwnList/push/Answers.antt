@@ -1,5 +1,4 @@
-use Rattle.std.proofs.Common.{◌≡◌, ℕ, ◌+◌, List, [], ◌∷◌, ◌++◌, drop, length, ap, sym, ◌∙◌, arith}
-use Rattle.amoebot_state.specs.declared.verdict.Entry.{Entry}
+use Rattle.std.proofs.Common.{◌≡◌, ◌+◌, [], ◌∷◌, ◌++◌, drop, length, ap, ◌∙◌, arith}
 use Rattle.amoebot_state.specs.Pairs.{Triples}
 use Rattle.amoebot_state.specs.Steps.{entry_of}
 use Rattle.ticket_commit.specs.declared.own.Head.{Head}

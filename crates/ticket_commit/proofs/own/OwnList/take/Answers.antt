@@ -1,7 +1,6 @@
-use Rattle.std.proofs.Common.{◌≡◌, ℕ, ◌+◌, ◌<◌, List, Some, length, drop, ap, sym, subst, ◌∙◌}
+use Rattle.std.proofs.Common.{◌<◌, Some, length, drop, ap, sym, subst, ◌∙◌}
 use Rattle.std.specs.Prelude.{slice_get, slice_range}
 use Rattle.std.proofs.lemmas.List.{drop-drop}
-use Rattle.amoebot_state.specs.declared.verdict.Entry.{Entry}
 use Rattle.amoebot_state.specs.Pairs.{Triples, triples_alike}
 use Rattle.ticket_commit.specs.OwnLists.{OwnEntries}
 use Rattle.ticket_commit.specs.Packed.{unpacked}
