@@ -1,11 +1,10 @@
 //! Reads and writes that fail: each one of a call in turn, and what stands then.
 
+use crate::calls::joined;
 use crate::commands::{COMPARED_AND_CHECKED, INTERLEAVINGS, MEASURED, SHOWN};
-use crate::electing::OLD_VALUES;
+use crate::journals::{COUNTED, DIFFERENT, ELECTIONS, RENEWED};
 use crate::pieces::{Row, WORKED};
-use crate::renewals::{DIFFERENT, RENEWED};
-use crate::rounding::COUNTED;
-use crate::tests::{call, joined};
+use crate::tests::call;
 use amoebot_run::Status;
 use outer_io::{Failed, MemSink, MemSource, Source, SureSink, SureSource};
 use std::alloc::Global;
@@ -194,8 +193,8 @@ fn each_failing_call_of_a_count_of_rounds_gives_its_status(rt: HostRuntime) -> R
 
 #[test]
 fn each_failing_call_of_an_election_gives_its_status(rt: HostRuntime) -> Result<(), Fail> {
-    check_each_call(&rt, rt.alloc(), &OLD_VALUES[0])?;
-    check_each_call(&rt, rt.alloc(), &OLD_VALUES[1])
+    check_each_call(&rt, rt.alloc(), &ELECTIONS[0])?;
+    check_each_call(&rt, rt.alloc(), &ELECTIONS[1])
 }
 
 /// The text of a shipped program is its own canonical text.

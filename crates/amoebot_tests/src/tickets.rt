@@ -1,14 +1,13 @@
 //! The command `tickets`: documents of at most one list leave by it what they leave by `run`, and are refused as by `run`.
 
+use crate::calls::{check, joined, words};
 use crate::faults::FAULTS;
-use crate::old_values::{RUNS as VERSIONED, check_by};
 use crate::pieces::{Fault, ONE, OUT, Row, TWO_TURNS};
 use crate::runs::{RUNS, WHOLE_PROGRAMS};
-use crate::tests::{check, joined, words};
 use crate::walls::{COMMANDS as WALLED, REFUSED};
 use amoebot_run::{Status, run_text};
 use outer_io::SureSink;
-use std::alloc::{AllocError, Global};
+use std::alloc::Global;
 use std::process::Abort;
 use std::sync::Wait;
 use std::test::Fail;
@@ -16,11 +15,11 @@ use std::thread::Threads;
 use text_tokens::Refusal;
 
 /// The document of each row of `run` leaves the row's text.
-fn check_rows_by_tickets<R: Abort + Threads + Wait + Sync>(
+fn check_rows_by_tickets<R: Threads + Wait + Sync>(
     rt: &R,
     alloc: Global,
     rows: &[Row],
-) -> Result<(), AllocError> {
+) -> Result<(), Fail> {
     for (word, pieces, status, entries, texts) in rows {
         if *word == "run" {
             let document = joined(alloc, pieces)?;
@@ -41,11 +40,11 @@ fn check_rows_by_tickets<R: Abort + Threads + Wait + Sync>(
 }
 
 /// The document of each row of `run` is refused as the row says.
-fn check_faults_by_tickets<R: Abort + Threads + Wait + Sync>(
+fn check_faults_by_tickets<R: Threads + Wait + Sync>(
     rt: &R,
     alloc: Global,
     faults: &[Fault],
-) -> Result<(), AllocError> {
+) -> Result<(), Fail> {
     for (word, pieces, line, kind, text) in faults {
         if *word == "run" {
             let document = joined(alloc, pieces)?;
@@ -70,40 +69,23 @@ fn check_faults_by_tickets<R: Abort + Threads + Wait + Sync>(
 
 #[test]
 fn lists_are_run_by_tickets(rt: HostRuntime) -> Result<(), Fail> {
-    check_rows_by_tickets(&rt, rt.alloc(), &RUNS)?;
-    Ok(())
+    check_rows_by_tickets(&rt, rt.alloc(), &RUNS)
 }
 
 #[test]
 fn whole_programs_are_run_by_tickets(rt: HostRuntime) -> Result<(), Fail> {
-    check_rows_by_tickets(&rt, rt.alloc(), &WHOLE_PROGRAMS)?;
-    Ok(())
+    check_rows_by_tickets(&rt, rt.alloc(), &WHOLE_PROGRAMS)
 }
 
 #[test]
 fn walls_stay_under_tickets(rt: HostRuntime) -> Result<(), Fail> {
-    check_rows_by_tickets(&rt, rt.alloc(), &WALLED)?;
-    Ok(())
+    check_rows_by_tickets(&rt, rt.alloc(), &WALLED)
 }
 
 #[test]
 fn tickets_refuse_what_run_refuses(rt: HostRuntime) -> Result<(), Fail> {
     check_faults_by_tickets(&rt, rt.alloc(), &FAULTS)?;
-    check_faults_by_tickets(&rt, rt.alloc(), &REFUSED)?;
-    Ok(())
-}
-
-/// The journal has old values in version 3 alone.
-#[test]
-fn tickets_keep_the_version_of_the_document(rt: HostRuntime) -> Result<(), Fail> {
-    for run in &VERSIONED {
-        if run.0 == "run" {
-            for version in ["amoebot 1", "amoebot 2", "amoebot 3"] {
-                check_by(&rt, rt.alloc(), "tickets", version, run)?;
-            }
-        }
-    }
-    Ok(())
+    check_faults_by_tickets(&rt, rt.alloc(), &REFUSED)
 }
 
 /// A document for each of the words below.

@@ -2,15 +2,15 @@
 //! Each is judged by a plain checker that knows the model and nothing of claims.
 //! Its text, behind the document, agrees under `replay`.
 
-use crate::meetings::{MEETINGS, ONE_FOR_SIXTEEN, SIXTEEN_APART, SIXTEEN_FOR_SIXTEEN};
-use crate::pieces::ON_THREADS;
-use crate::tests::{check, joined, words};
+use crate::meetings::{MEETINGS, ON_THREADS, ONE_FOR_SIXTEEN, SIXTEEN_APART, SIXTEEN_FOR_SIXTEEN};
 use action_eval::Runner;
 use activation::{Gate, NoGate};
-use amoebot_run::{Status, run, run_text};
+use amoebot_run::{Status, run_text};
+use amoebot_tests::calls::{joined, words};
+use amoebot_tests::replays::{Replayed, run_and_replay};
 use claim_core::Report;
 use claim_tests::is_report;
-use outer_io::{SureSink, SureSource};
+use outer_io::SureSink;
 use shape_files::{Form, read_sections};
 use shipped_programs::HEXAGON;
 use std::alloc::{AllocError, Global};
@@ -19,80 +19,6 @@ use std::sync::Wait;
 use std::test::Fail;
 use std::thread;
 use std::thread::Threads;
-
-/// What a run leaves: its report, and the document with the text behind it.
-#[derive(Drop)]
-pub(crate) struct Replayed {
-    pub(crate) report: Report,
-    pub(crate) whole: Vec<u8>,
-}
-
-/// Runs the document by a word, with this gate. Turns come with `run` alone, and tickets with `tickets` alone.
-fn report_by<R: Abort + Threads + Wait + Sync, G: Gate>(
-    rt: &R,
-    alloc: Global,
-    word: &str,
-    document: &str,
-    gate: &G,
-    out: &mut SureSink,
-) -> Result<Report, Fail> {
-    let words = words(alloc, &[word])?;
-    let mut input = SureSource::new(alloc, document.as_bytes())?;
-    let ended = run(rt, alloc, words.as_slice(), &mut input, out, gate);
-    assert_eq!(rt; ended.status, Status::Done);
-    assert_eq!(rt; ended.turns.is_some(), word == "run");
-    assert_eq!(rt; ended.tickets.is_some(), word == "tickets");
-    Ok(ended.report.ok_or("a report")?)
-}
-
-/// The same, with the text behind the document.
-fn run_by<R: Abort + Threads + Wait + Sync, G: Gate>(
-    rt: &R,
-    alloc: Global,
-    word: &str,
-    document: &str,
-    gate: &G,
-) -> Result<Replayed, Fail> {
-    let mut out = SureSink::new(alloc, 4_000_000)?;
-    let report = report_by(rt, alloc, word, document, gate, &mut out)?;
-    let mut whole: Vec<u8> = Vec::new(alloc);
-    whole.extend_from_slice(document.as_bytes())?;
-    whole.extend_from_slice(out.bytes())?;
-    Ok(Replayed { report, whole })
-}
-
-/// With the text behind it the document agrees under `replay`.
-fn check_replay<R: Abort + Threads + Wait + Sync>(
-    rt: &R,
-    alloc: Global,
-    replayed: &Replayed,
-) -> Result<(), Fail> {
-    let entries = replayed.report.journal.entries().len();
-    let agrees = format!(in alloc; "agrees {entries}\n")?;
-    let whole = replayed.whole.as_slice();
-    check(
-        rt,
-        alloc,
-        &["replay"],
-        whole,
-        Status::Done,
-        None,
-        agrees.as_str(),
-    )?;
-    Ok(())
-}
-
-/// Runs the document, whose last byte is LF, by a word, and compares what `replay` says of it with the text behind it.
-pub(crate) fn run_and_replay<R: Abort + Threads + Wait + Sync>(
-    rt: &R,
-    alloc: Global,
-    word: &str,
-    document: &str,
-) -> Result<Replayed, Fail> {
-    let replayed = run_by(rt, alloc, word, document, &NoGate)?;
-    check_replay(rt, alloc, &replayed)?;
-    Ok(replayed)
-}
 
 /// Whether the report is one of the document's run, by the checker.
 fn is_report_of(alloc: Global, document: &str, report: &Report) -> Result<bool, Fail> {
@@ -117,9 +43,7 @@ pub(crate) fn right_report<R: Abort + Threads + Wait + Sync, G: Gate>(
     document: &str,
     gate: &G,
 ) -> Result<Report, Fail> {
-    let replayed = run_by(rt, alloc, word, document, gate)?;
-    check_replay(rt, alloc, &replayed)?;
-    let Replayed { report, whole: _ } = replayed;
+    let Replayed { report, whole: _ } = run_and_replay(rt, alloc, word, document, gate)?;
     let passes = is_report_of(alloc, document, &report)?;
     assert!(rt; passes, "{word} of {document}");
     Ok(report)
@@ -231,7 +155,7 @@ fn check_row<R: Abort + Threads + Wait + Sync>(
     word: &str,
     document: &str,
 ) -> Result<(), Fail> {
-    let replayed = run_and_replay(rt, alloc, word, document)?;
+    let replayed = run_and_replay(rt, alloc, word, document, &NoGate)?;
     assert_eq!(rt; replayed.report.turns.callers(), 4);
     let words = words(alloc, &["measure"])?;
     let mut out = SureSink::new(alloc, 4096)?;

@@ -1,10 +1,9 @@
 //! Journals that cannot be gone back along: last shapes in another frame, entries that were tampered with, places that there are
 //! not, documents that are none, and words that are no command.
 
-use crate::old_values::EXPANDED_3;
-use crate::pieces::{NO_ENTRY, ONE};
-use crate::renewals::{EXPANDED_FINAL, OUT_RENEWED};
 use amoebot_run::Status::{self, Differs};
+use amoebot_tests::journals::{EXPANDED_3, EXPANDED_FINAL, OUT_RENEWED};
+use amoebot_tests::pieces::{NO_ENTRY, ONE};
 use text_tokens::RefusalKind::{
     self, BadEntry, BadPlace, BadRange, OutOfBox, Trailing, Truncated, Unexpected,
 };

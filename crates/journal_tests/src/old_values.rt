@@ -1,14 +1,15 @@
 //! Documents of version 3: journals with the old values of cells. Runs under each version, and journals that were tampered with.
 
-use crate::pieces::{
+use crate::tampered::REST;
+use amoebot_run::Status::{Differs, Done};
+use amoebot_state::{Entry, PlainEntry};
+use amoebot_tests::calls::{check, check_faults, check_rows, joined};
+use amoebot_tests::journals::{EXPANDED_3, OUT_3};
+use amoebot_tests::pieces::{
     DONE, DRAG, DRAGGED_FINAL, DRAGGED_JOURNAL, EXPANDED, FAR, FAR_FINAL, FAR_JOURNAL, Fault,
     GUARDED, MARK, NO_ENTRY, ONE, ONE_EACH, ONE_TURN, OUT, PULL, PULLED, PUSH, Row, TRAILED,
     TRAILED_0, TWO, TWO_EACH, TWO_TURNS, UNGUARDED,
 };
-use crate::tampered::REST;
-use crate::tests::{check, check_faults, check_rows, joined};
-use amoebot_run::Status::{Differs, Done};
-use amoebot_state::{Entry, PlainEntry};
 use shape_files::{Form, Parts, read_sections};
 use std::alloc::{AllocError, Global};
 use std::process::Abort;
@@ -19,7 +20,7 @@ use text_tokens::RefusalKind::{BadEntry, BadPlace, BadRange, Unexpected};
 
 /// A document that has one text in each version, apart from its journal: the word of its command, its pieces in version 1,
 /// how many entries there are, the journal of versions 1 and 2, that of version 3, and the rest of the text.
-pub type Run = (
+type Run = (
     &'static str,
     &'static [&'static str],
     usize,
@@ -28,13 +29,7 @@ pub type Run = (
     &'static [&'static str],
 );
 
-/// A contracted amoebot expands. Four lines.
-pub const OUT_3: &str = "amoebot 3\nprogram\naction out when contracted move expand head 0\nend\n";
-
 // ---- journals with old values
-
-pub const EXPANDED_3: &str = "journal\n\
-    entry 0 0 0 0 0 expand head 0 spot 3 3 empty to 0 body 0 2 3 2 3 0 + to 3 3 2 3 0 +\nend\n";
 
 pub const FAR_EXCHANGED_3: &str = "journal\n\
     entry 0 0 0 0 0 expand head 0 spot 2 1 empty to 0 body 0 1 1 1 1 0 + to 2 1 1 1 0 +\n\
@@ -52,7 +47,7 @@ const TWICE_NOTHING: &str = "journal\nentry 0 0 0 0 0 none\nentry 1 0 1 0 0 none
 
 const TWICE_DONE: &str = "turns\nturn 0 0 done 0\nturn 0 1 done 1\nend\n";
 
-pub static RUNS: [Run; 12] = [
+static RUNS: [Run; 12] = [
     // An amoebot expands.
     (
         "run",
@@ -634,12 +629,12 @@ fn replayed_in(alloc: Global, version: &str, run: &Run) -> Result<String, AllocE
 }
 
 /// In a version the document leaves its text, and agrees with it.
-fn check_in<R: Abort + Threads + Wait + Sync>(
+fn check_in<R: Threads + Wait + Sync>(
     rt: &R,
     alloc: Global,
     version: &str,
     run: &Run,
-) -> Result<(), AllocError> {
+) -> Result<(), Fail> {
     check_by(rt, alloc, run.0, version, run)?;
     let whole = replayed_in(alloc, version, run)?;
     let agrees = format!(in alloc; "agrees {}\n", run.2)?;
@@ -655,13 +650,13 @@ fn check_in<R: Abort + Threads + Wait + Sync>(
 }
 
 /// In a version the document leaves its text by a word.
-pub(crate) fn check_by<R: Abort + Threads + Wait + Sync>(
+fn check_by<R: Threads + Wait + Sync>(
     rt: &R,
     alloc: Global,
     word: &str,
     version: &str,
     run: &Run,
-) -> Result<(), AllocError> {
+) -> Result<(), Fail> {
     let document = in_version(alloc, version, run.1)?;
     let text = text_in(alloc, version, run)?;
     check(
@@ -762,6 +757,19 @@ fn a_run_has_no_old_values_in_versions_1_and_2(rt: HostRuntime) -> Result<(), Fa
     Ok(())
 }
 
+/// The journal has old values in version 3 alone.
+#[test]
+fn tickets_keep_the_version_of_the_document(rt: HostRuntime) -> Result<(), Fail> {
+    for run in &RUNS {
+        if run.0 == "run" {
+            for version in ["amoebot 1", "amoebot 2", "amoebot 3"] {
+                check_by(&rt, rt.alloc(), "tickets", version, run)?;
+            }
+        }
+    }
+    Ok(())
+}
+
 #[test]
 fn each_version_has_the_same_plain_entries(rt: HostRuntime) -> Result<(), Fail> {
     for run in &RUNS {
@@ -772,18 +780,15 @@ fn each_version_has_the_same_plain_entries(rt: HostRuntime) -> Result<(), Fail> 
 
 #[test]
 fn entries_that_are_none_of_version_3_are_refused(rt: HostRuntime) -> Result<(), Fail> {
-    check_faults(&rt, rt.alloc(), &REFUSED)?;
-    Ok(())
+    check_faults(&rt, rt.alloc(), &REFUSED)
 }
 
 #[test]
 fn old_values_that_were_tampered_with_differ(rt: HostRuntime) -> Result<(), Fail> {
-    check_rows(&rt, rt.alloc(), &COMPARED)?;
-    Ok(())
+    check_rows(&rt, rt.alloc(), &COMPARED)
 }
 
 #[test]
 fn version_3_has_walls_and_serves_other_commands(rt: HostRuntime) -> Result<(), Fail> {
-    check_rows(&rt, rt.alloc(), &COMMANDS)?;
-    Ok(())
+    check_rows(&rt, rt.alloc(), &COMMANDS)
 }

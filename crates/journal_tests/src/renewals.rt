@@ -1,15 +1,17 @@
 //! Documents that are renewed: in version 3, with the program in its canonical form and the old values in the journal.
 
-use crate::old_values::{DRAGGED_JOURNAL_3, EXPANDED_3, FAR_EXCHANGED_3, OUT_3};
-use crate::pieces::{
-    DRAG, DRAGGED_EXCHANGED, DRAGGED_FINAL, DRAGGED_JOURNAL, EXPANDED, FAR, FAR_EXCHANGED,
-    FAR_FINAL, Fault, NO_ENTRY, ONE, ONE_EACH, OUT, Row, TRAILED_0, TWO_TURNS,
-};
-use crate::tests::{check, check_rows, joined};
+use crate::old_values::{DRAGGED_JOURNAL_3, FAR_EXCHANGED_3};
 use crate::{old_values, tampered};
-use amoebot_run::Status::{self, Differs, Done};
-use std::alloc::{AllocError, Global};
-use std::process::Abort;
+use amoebot_run::Status::{self, Done};
+use amoebot_tests::calls::{check, check_rows, joined};
+use amoebot_tests::journals::{
+    DIFFERENT, EXPANDED_3, EXPANDED_FINAL, OUT_3, OUT_RENEWED, RENEWED, WORKED_TURNS,
+};
+use amoebot_tests::pieces::{
+    DRAG, DRAGGED_FINAL, DRAGGED_JOURNAL, EXPANDED, FAR, FAR_EXCHANGED, FAR_FINAL, Fault, NO_ENTRY,
+    ONE, ONE_EACH, OUT, Row, TRAILED_0, TWO_TURNS,
+};
+use std::alloc::Global;
 use std::sync::Wait;
 use std::test::Fail;
 use std::thread::Threads;
@@ -24,32 +26,6 @@ pub type Renewal = (
 );
 
 const BOTH: [&str; 2] = ["replay", "renew"];
-
-/// The header and the program of the worked example, as they are renewed.
-pub const OUT_RENEWED: &str =
-    "amoebot 3\nprogram\nguard off\naction out\nwhen contracted\nmove expand head 0\nend\n";
-
-pub const EXPANDED_FINAL: &str = "final\narea 0 0 8 8\nbot 3 3 2 3 0 +\nend\n";
-
-const WORKED_TURNS: &str = "turns\nturn 0 0 done 0\nturn 0 1 idle 1\nend\n";
-
-/// The worked example is renewed, and so is what comes of that.
-pub static RENEWED: [Row; 2] = [
-    (
-        "renew",
-        &[OUT, ONE, TWO_TURNS, EXPANDED, EXPANDED_FINAL, WORKED_TURNS],
-        Done,
-        None,
-        &[OUT_RENEWED, ONE, EXPANDED_3, EXPANDED_FINAL],
-    ),
-    (
-        "renew",
-        &[OUT_RENEWED, ONE, EXPANDED_3, EXPANDED_FINAL],
-        Done,
-        None,
-        &[OUT_RENEWED, ONE, EXPANDED_3, EXPANDED_FINAL],
-    ),
-];
 
 pub static RENEWALS: [Renewal; 9] = [
     (
@@ -175,57 +151,6 @@ pub static RENEWALS: [Renewal; 9] = [
     ),
 ];
 
-/// Journals that differ, which are not renewed.
-pub static DIFFERENT: [Row; 4] = [
-    // An old value is another one.
-    (
-        "renew",
-        &[
-            OUT_RENEWED,
-            ONE,
-            "journal\nentry 0 0 0 0 0 expand head 0 spot 3 3 empty to 0 body 0 2 3 2 3 1 + to 3 3 2 3 0 +\nend\n",
-            EXPANDED_FINAL,
-        ],
-        Differs(0),
-        None,
-        &["differs 0\n"],
-    ),
-    // Each entry is a step, and the last shape is that of the start.
-    (
-        "renew",
-        &[
-            OUT,
-            ONE,
-            EXPANDED,
-            "final\narea 0 0 8 8\nbot 2 3 2 3 0 +\nend\n",
-        ],
-        Differs(1),
-        None,
-        &["differs 1\n"],
-    ),
-    // The last shape lacks a wall.
-    (
-        "renew",
-        &[
-            OUT_3,
-            "shape\narea 0 0 8 8\nwall 5 5\nbot 2 3 2 3 0 +\nend\n",
-            EXPANDED_3,
-            EXPANDED_FINAL,
-        ],
-        Differs(1),
-        None,
-        &["differs 1\n"],
-    ),
-    // The two entries, the other way round.
-    (
-        "renew",
-        &[DRAG, TRAILED_0, DRAGGED_EXCHANGED, DRAGGED_FINAL],
-        Differs(0),
-        None,
-        &["differs 0\n"],
-    ),
-];
-
 /// Documents that are none of the form Replay.
 pub static REFUSED: [Fault; 5] = [
     // There is no journal.
@@ -267,11 +192,11 @@ pub static REFUSED: [Fault; 5] = [
 ];
 
 /// The document is renewed, and what comes of that is renewed to itself. `replay` says the same of both.
-fn check_renewal<R: Abort + Threads + Wait + Sync>(
+fn check_renewal<R: Threads + Wait + Sync>(
     rt: &R,
     alloc: Global,
     renewal: &Renewal,
-) -> Result<(), AllocError> {
+) -> Result<(), Fail> {
     let (pieces, agrees, texts) = renewal;
     let document = joined(alloc, pieces)?;
     let text = joined(alloc, texts)?;
@@ -283,12 +208,12 @@ fn check_renewal<R: Abort + Threads + Wait + Sync>(
 }
 
 /// Each of the commands refuses each document as its row says.
-pub(crate) fn check_refused<R: Abort + Threads + Wait + Sync>(
+pub(crate) fn check_refused<R: Threads + Wait + Sync>(
     rt: &R,
     alloc: Global,
     commands: &[&str],
     faults: &[Fault],
-) -> Result<(), AllocError> {
+) -> Result<(), Fail> {
     for (_, pieces, line, kind, text) in faults {
         let document = joined(alloc, pieces)?;
         for word in commands {
@@ -303,12 +228,12 @@ pub(crate) fn check_refused<R: Abort + Threads + Wait + Sync>(
 }
 
 /// Each of the commands says of each journal that differs what its row says.
-pub(crate) fn check_different<R: Abort + Threads + Wait + Sync>(
+pub(crate) fn check_different<R: Threads + Wait + Sync>(
     rt: &R,
     alloc: Global,
     commands: &[&str],
     rows: &[Row],
-) -> Result<(), AllocError> {
+) -> Result<(), Fail> {
     for (_, pieces, status, entries, texts) in rows {
         let document = joined(alloc, pieces)?;
         let text = joined(alloc, texts)?;
@@ -342,14 +267,12 @@ fn a_document_is_renewed_once_and_then_stays(rt: HostRuntime) -> Result<(), Fail
 fn a_journal_that_differs_is_not_renewed(rt: HostRuntime) -> Result<(), Fail> {
     check_different(&rt, rt.alloc(), &BOTH, &DIFFERENT)?;
     check_different(&rt, rt.alloc(), &BOTH, &old_values::COMPARED)?;
-    check_different(&rt, rt.alloc(), &BOTH, &tampered::COMPARED)?;
-    Ok(())
+    check_different(&rt, rt.alloc(), &BOTH, &tampered::COMPARED)
 }
 
 #[test]
 fn renew_refuses_what_replay_refuses(rt: HostRuntime) -> Result<(), Fail> {
     check_refused(&rt, rt.alloc(), &BOTH, &REFUSED)?;
     check_refused(&rt, rt.alloc(), &BOTH, &old_values::REFUSED)?;
-    check_refused(&rt, rt.alloc(), &BOTH, &tampered::REFUSED)?;
-    Ok(())
+    check_refused(&rt, rt.alloc(), &BOTH, &tampered::REFUSED)
 }

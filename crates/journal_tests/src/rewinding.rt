@@ -1,16 +1,15 @@
 //! Journals that are gone back along: the shape at a place, seen from the last shape, or where there is no step back.
 
-use crate::commands::USAGE;
-use crate::old_values::{DRAGGED_JOURNAL_3, EXPANDED_3};
-use crate::pieces::{DRAGGED_FINAL, NO_ENTRY, ONE, TRAILED_0};
-use crate::renewals::{EXPANDED_FINAL, OUT_RENEWED, RENEWALS};
+use crate::old_values::DRAGGED_JOURNAL_3;
+use crate::renewals::RENEWALS;
 use crate::rewind_faults::{
     NO_REWINDS, OTHER_FRAMES, REFUSED, Refused, Rewinding, STILL_FINAL, TAMPERED,
 };
-use crate::tests::{check, joined};
 use amoebot_run::Status::{self, Differs, Done};
-use std::alloc::{AllocError, Global};
-use std::process::Abort;
+use amoebot_tests::calls::{check, joined};
+use amoebot_tests::journals::{EXPANDED_3, EXPANDED_FINAL, OUT_RENEWED};
+use amoebot_tests::pieces::{DRAGGED_FINAL, NO_ENTRY, ONE, TRAILED_0, USAGE};
+use std::alloc::Global;
 use std::sync::Wait;
 use std::test::Fail;
 use std::thread::Threads;
@@ -502,11 +501,11 @@ static ERODING: [Rewinding; 8] = [
 ];
 
 /// `rewind` to each place says what its row says.
-fn check_rewindings<R: Abort + Threads + Wait + Sync>(
+fn check_rewindings<R: Threads + Wait + Sync>(
     rt: &R,
     alloc: Global,
     rows: &[Rewinding],
-) -> Result<(), AllocError> {
+) -> Result<(), Fail> {
     for (place, pieces, status, texts) in rows {
         let document = joined(alloc, pieces)?;
         let text = joined(alloc, texts)?;
@@ -524,11 +523,11 @@ fn check_rewindings<R: Abort + Threads + Wait + Sync>(
 }
 
 /// `rewind` refuses each document as its row says.
-fn check_refused<R: Abort + Threads + Wait + Sync>(
+fn check_refused<R: Threads + Wait + Sync>(
     rt: &R,
     alloc: Global,
     rows: &[Refused],
-) -> Result<(), AllocError> {
+) -> Result<(), Fail> {
     for (place, pieces, line, kind, text) in rows {
         let document = joined(alloc, pieces)?;
         let status = Status::Refused(Refusal {
@@ -551,20 +550,17 @@ fn check_refused<R: Abort + Threads + Wait + Sync>(
 #[test]
 fn a_journal_leads_back_to_the_shape_at_a_place(rt: HostRuntime) -> Result<(), Fail> {
     check_rewindings(&rt, rt.alloc(), &REWOUND)?;
-    check_rewindings(&rt, rt.alloc(), &ERODING)?;
-    Ok(())
+    check_rewindings(&rt, rt.alloc(), &ERODING)
 }
 
 #[test]
 fn the_greatest_place_without_a_step_back_is_told(rt: HostRuntime) -> Result<(), Fail> {
-    check_rewindings(&rt, rt.alloc(), &FAULTY)?;
-    Ok(())
+    check_rewindings(&rt, rt.alloc(), &FAULTY)
 }
 
 #[test]
 fn a_last_shape_in_another_frame_differs_behind_the_journal(rt: HostRuntime) -> Result<(), Fail> {
-    check_rewindings(&rt, rt.alloc(), &OTHER_FRAMES)?;
-    Ok(())
+    check_rewindings(&rt, rt.alloc(), &OTHER_FRAMES)
 }
 
 #[test]
@@ -627,8 +623,7 @@ fn a_renewed_journal_leads_back_to_its_first_shape(rt: HostRuntime) -> Result<()
 
 #[test]
 fn versions_places_and_documents_are_refused_in_this_order(rt: HostRuntime) -> Result<(), Fail> {
-    check_refused(&rt, rt.alloc(), &REFUSED)?;
-    Ok(())
+    check_refused(&rt, rt.alloc(), &REFUSED)
 }
 
 #[test]

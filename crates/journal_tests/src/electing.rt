@@ -1,20 +1,20 @@
 //! Elections: documents with what `elect` writes of them, in each version; programs and shapes that it refuses; and journals
 //! of runs on threads.
 
-use crate::pieces::{
-    ERODE, EXPANDED, Fault, NO_ENTRY, ONE, OUT, Row, SEVEN, SEVEN_FINAL, SEVEN_JOURNAL, SIX,
-    SIX_FINAL, TWO_TURNS, Told,
-};
 use crate::renewals::{self, check_refused};
-use crate::reports::{Replayed, run_and_replay};
 use crate::rounding::{check_told, erosion_of_144};
-use crate::tests::{check, check_faults, check_rows, joined};
 use crate::{old_values, tampered};
+use activation::NoGate;
 use amoebot_run::Status::{self, Differs, Done};
 use amoebot_state::World;
-use shipped_programs::EROSION;
+use amoebot_tests::calls::{check, check_faults, check_rows, joined};
+use amoebot_tests::journals::{ELECTIONS, TWO_CANDIDATES};
+use amoebot_tests::pieces::{
+    ERODE, EXPANDED, Fault, NO_ENTRY, ONE, OUT, SEVEN, SEVEN_FINAL, SEVEN_JOURNAL, SIX, SIX_FINAL,
+    TWO_TURNS, Told,
+};
+use amoebot_tests::replays::{Replayed, run_and_replay};
 use std::alloc::{AllocError, Global};
-use std::process::Abort;
 use std::sync::Wait;
 use std::test::Fail;
 use std::thread::Threads;
@@ -23,8 +23,6 @@ use text_tokens::RefusalKind::{self, BadEntry, BadStart, NotErosion};
 
 /// A change of a text: what is replaced, with what, and how often at most.
 type Change = (&'static str, &'static str, usize);
-
-const TWO_CANDIDATES: &str = "shape\narea 0 0 8 8\nbot 2 3 2 3 0 + 1 0\nbot 3 3 3 3 0 + 1 0\nend\n";
 
 /// An amoebot that has a leader's values and is the only one.
 const LED: &str = "shape\narea 0 0 8 8\nbot 2 3 2 3 0 + 1 1\nend\n";
@@ -365,38 +363,6 @@ static CHANGED: [(Change, Status, &str); 6] = [
     ),
 ];
 
-/// One journal in version 3, and the same with another old value.
-pub static OLD_VALUES: [Row; 2] = [
-    (
-        "elect",
-        &[
-            "amoebot 3\n",
-            EROSION,
-            TWO_CANDIDATES,
-            "journal\nentry 0 0 0 0 1 none body 0 2 3 2 3 0 + 1 0 to 2 3 2 3 0 + 0 0\n\
-            entry 1 0 1 1 0 none body 1 3 3 3 3 0 + 1 0 to 3 3 3 3 0 + 1 1\nend\n",
-            "final\narea 0 0 8 8\nbot 2 3 2 3 0 + 0 0\nbot 3 3 3 3 0 + 1 1\nend\n",
-        ],
-        Done,
-        None,
-        &["candidates 1\nleader 1\n"],
-    ),
-    (
-        "elect",
-        &[
-            "amoebot 3\n",
-            EROSION,
-            TWO_CANDIDATES,
-            "journal\nentry 0 0 0 0 1 none body 0 2 3 2 3 0 + 1 0 to 2 3 2 3 0 + 0 0\n\
-            entry 1 0 1 1 0 none body 1 3 3 3 3 0 + 0 0 to 3 3 3 3 0 + 1 1\nend\n",
-            "final\narea 0 0 8 8\nbot 2 3 2 3 0 + 0 0\nbot 3 3 3 3 0 + 1 1\nend\n",
-        ],
-        Differs(1),
-        None,
-        &["differs 1\n"],
-    ),
-];
-
 /// The document of seven with this program.
 fn seven_by(alloc: Global, program: &str) -> Result<String, AllocError> {
     joined(alloc, &[program, SEVEN, SEVEN_JOURNAL, SEVEN_FINAL])
@@ -416,11 +382,11 @@ fn one_by(alloc: Global, program: &str) -> Result<String, AllocError> {
 }
 
 /// `elect` refuses this program.
-fn check_no_erosion<R: Abort + Threads + Wait + Sync>(
+fn check_no_erosion<R: Threads + Wait + Sync>(
     rt: &R,
     alloc: Global,
     program: &str,
-) -> Result<(), AllocError> {
+) -> Result<(), Fail> {
     let document = one_by(alloc, program)?;
     let status = Status::Refused(Refusal {
         line: 0,
@@ -441,8 +407,7 @@ fn check_no_erosion<R: Abort + Threads + Wait + Sync>(
 #[test]
 fn candidates_are_counted_and_the_leader_is_named(rt: HostRuntime) -> Result<(), Fail> {
     check_told(&rt, rt.alloc(), "elect", &ELECTED)?;
-    check_rows(&rt, rt.alloc(), &OLD_VALUES)?;
-    Ok(())
+    check_rows(&rt, rt.alloc(), &ELECTIONS)
 }
 
 #[test]
@@ -478,8 +443,7 @@ fn each_other_program_is_no_erosion(rt: HostRuntime) -> Result<(), Fail> {
 
 #[test]
 fn starts_that_are_not_ready_are_refused_behind_the_document(rt: HostRuntime) -> Result<(), Fail> {
-    check_faults(&rt, rt.alloc(), &NOT_ELECTED)?;
-    Ok(())
+    check_faults(&rt, rt.alloc(), &NOT_ELECTED)
 }
 
 #[test]
@@ -504,8 +468,7 @@ fn elect_judges_the_start_and_then_the_journal(rt: HostRuntime) -> Result<(), Fa
 fn elect_refuses_what_replay_refuses(rt: HostRuntime) -> Result<(), Fail> {
     check_refused(&rt, rt.alloc(), &["elect"], &renewals::REFUSED)?;
     check_refused(&rt, rt.alloc(), &["elect"], &old_values::REFUSED)?;
-    check_refused(&rt, rt.alloc(), &["elect"], &tampered::REFUSED)?;
-    Ok(())
+    check_refused(&rt, rt.alloc(), &["elect"], &tampered::REFUSED)
 }
 
 // ---- journals of runs on threads
@@ -530,12 +493,12 @@ fn election_in(alloc: Global, world: &World) -> Result<String, AllocError> {
 }
 
 /// Runs the document. What `elect` writes of its journal is what the report's shape says.
-fn check_election<R: Abort + Threads + Wait + Sync>(
+fn check_election<R: Threads + Wait + Sync>(
     rt: &R,
     alloc: Global,
     document: &str,
 ) -> Result<(), Fail> {
-    let Replayed { report, whole } = run_and_replay(rt, alloc, "run", document)?;
+    let Replayed { report, whole } = run_and_replay(rt, alloc, "run", document, &NoGate)?;
     let text = election_in(alloc, &report.world)?;
     check(
         rt,
@@ -545,8 +508,7 @@ fn check_election<R: Abort + Threads + Wait + Sync>(
         Done,
         None,
         text.as_str(),
-    )?;
-    Ok(())
+    )
 }
 
 #[test]

@@ -3,10 +3,10 @@
 //! agrees under `replay`.
 ghost use Rattle.std.specs.Prelude.{◌≡◌, ◌≤◌, ◌<◌, IfOk};
 
-use crate::pieces::ON_THREADS;
+use crate::meetings::ON_THREADS;
 use crate::reports::check_reports;
-use crate::tests::words;
 use amoebot_run::{Status, run_text};
+use amoebot_tests::calls::words;
 use outer_io::SureSink;
 use rand_core::SeedableRng;
 use rand_core::utils::NextWord;

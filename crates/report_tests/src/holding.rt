@@ -1,9 +1,9 @@
 //! A gate that holds one caller, with its zone claimed and nothing committed, while the others make all their turns.
-use crate::meetings::FOUR_APART;
-use crate::pieces::ON_THREADS;
+
+use crate::meetings::{FOUR_APART, ON_THREADS};
 use crate::reports::right_report;
-use crate::tests::joined;
 use activation::Gate;
+use amoebot_tests::calls::joined;
 use claim_core::{Mark, Marks};
 use std::alloc::Global;
 use std::process::Abort;

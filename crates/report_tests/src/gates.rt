@@ -1,10 +1,10 @@
 //! Gates that are given to `run`: each turn of a document comes to them, and for a sample too.
-use crate::meetings::TWO_APART;
-use crate::pieces::ON_THREADS;
+
+use crate::meetings::{ON_THREADS, TWO_APART};
 use crate::reports::right_report;
-use crate::tests::{joined, words};
 use activation::Gate;
 use amoebot_run::{Ended, Status, run};
+use amoebot_tests::calls::{joined, words};
 use claim_core::Mark;
 use outer_io::{SureSink, SureSource};
 use std::alloc::Global;

@@ -1,6 +1,9 @@
 //! Documents whose callers meet, and one whose callers never do.
 
-use crate::pieces::{FAR, MARK, OUT, OUT_AND_BACK};
+use amoebot_tests::pieces::{FAR, MARK, OUT, OUT_AND_BACK};
+
+/// The words that make the turns of each list by a worker of its own.
+pub const ON_THREADS: [&str; 2] = ["run", "tickets"];
 
 /// An amoebot that marks itself, in the list of each of sixteen callers.
 pub const ONE_FOR_SIXTEEN: &[&str] = &[

@@ -1,8 +1,8 @@
 //! Journals that were tampered with: the worked example with its text behind it, in which the entry is another one.
 
-use crate::pieces::{Fault, ONE, OUT, Row, TWO_TURNS};
-use crate::tests::{check_faults, check_rows};
 use amoebot_run::Status::{Differs, Done};
+use amoebot_tests::calls::{check_faults, check_rows};
+use amoebot_tests::pieces::{Fault, ONE, OUT, Row, TWO_TURNS};
 use std::test::Fail;
 use text_tokens::RefusalKind::{BadEntry, BadPlace};
 
@@ -170,12 +170,10 @@ pub static COMPARED: [Row; 7] = [
 
 #[test]
 fn entries_that_name_what_is_not_there_are_refused(rt: HostRuntime) -> Result<(), Fail> {
-    check_faults(&rt, rt.alloc(), &REFUSED)?;
-    Ok(())
+    check_faults(&rt, rt.alloc(), &REFUSED)
 }
 
 #[test]
 fn entries_that_were_tampered_with_differ(rt: HostRuntime) -> Result<(), Fail> {
-    check_rows(&rt, rt.alloc(), &COMPARED)?;
-    Ok(())
+    check_rows(&rt, rt.alloc(), &COMPARED)
 }

@@ -1,24 +1,24 @@
 //! Rounds of runs: documents with what `rounds` writes of them, in each version; and journals of runs on threads.
 
-use crate::old_values::OUT_3;
-use crate::pieces::{
-    DRAG, DRAGGED_EXCHANGED, DRAGGED_FINAL, DRAGGED_JOURNAL, ERODE, EXPANDED, MARK, NO_ENTRY, ONE,
-    OUT, Row, SEVEN, SEVEN_FINAL, SEVEN_JOURNAL, SIX, SIX_FINAL, TRAILED_0, TWO, TWO_TURNS, Told,
-};
 use crate::plain_rounds::Table;
 use crate::renewals::{self, check_different, check_refused};
-use crate::reports::{Replayed, run_and_replay};
-use crate::tests::{check, check_rows, joined, words};
 use crate::{old_values, tampered};
 use action_eval::Runner;
-use amoebot_run::Status::{Differs, Done};
+use activation::NoGate;
+use amoebot_run::Status::Done;
 use amoebot_run::run_text;
+use amoebot_tests::calls::{check, check_rows, joined, words};
+use amoebot_tests::journals::COUNTED;
+use amoebot_tests::pieces::{
+    DRAG, DRAGGED_FINAL, DRAGGED_JOURNAL, ERODE, EXPANDED, MARK, NO_ENTRY, ONE, OUT, SEVEN,
+    SEVEN_FINAL, SEVEN_JOURNAL, SIX, SIX_FINAL, TRAILED_0, TWO, TWO_TURNS, Told,
+};
+use amoebot_tests::replays::{Replayed, run_and_replay};
 use claim_core::Report;
 use outer_io::SureSink;
 use shape_files::{Form, read_sections};
 use shipped_programs::{EROSION, HEXAGON};
 use std::alloc::{AllocError, Global};
-use std::process::Abort;
 use std::sync::Wait;
 use std::test::Fail;
 use std::thread::Threads;
@@ -254,76 +254,41 @@ static ROWS_OF_AMOEBOTS: [Told; 3] = [
     ),
 ];
 
-/// A journal whose rounds are counted, and some that differ.
-pub static COUNTED: [Row; 4] = [
-    (
-        "rounds",
-        &[DRAG, TRAILED_0, DRAGGED_JOURNAL, DRAGGED_FINAL],
-        Done,
-        None,
-        &["rounds 2\nwaiting 1\n"],
-    ),
-    // The last shape is that of the start.
-    (
-        "rounds",
-        &[
-            OUT,
-            ONE,
-            EXPANDED,
-            "final\narea 0 0 8 8\nbot 2 3 2 3 0 +\nend\n",
-        ],
-        Differs(1),
-        None,
-        &["differs 1\n"],
-    ),
-    // The two entries, the other way round.
-    (
-        "rounds",
-        &[DRAG, TRAILED_0, DRAGGED_EXCHANGED, DRAGGED_FINAL],
-        Differs(0),
-        None,
-        &["differs 0\n"],
-    ),
-    // In version 3 an old value is another one.
-    (
-        "rounds",
-        &[
-            OUT_3,
-            ONE,
-            "journal\n\
-            entry 0 0 0 0 0 expand head 0 spot 3 3 empty to 0 body 0 2 3 2 3 1 + to 3 3 2 3 0 +\nend\n",
-            "final\narea 0 0 8 8\nbot 3 3 2 3 0 +\nend\n",
-        ],
-        Differs(0),
-        None,
-        &["differs 0\n"],
-    ),
-];
-
-/// What `renew` writes of a document: the same in version 3.
-pub(crate) fn renewed<R: Abort + Threads + Wait + Sync>(
+/// Writes what `renew` makes of a document.
+fn renew_into<R: Threads + Wait + Sync>(
     rt: &R,
     alloc: Global,
     document: &str,
-) -> Result<Vec<u8>, AllocError> {
+    out: &mut SureSink,
+) -> Result<(), Fail> {
     let words = words(alloc, &["renew"])?;
-    let Ok(mut out) = SureSink::new(alloc, 4096) else {
-        return Err(AllocError);
-    };
-    let ended = run_text(rt, alloc, words.as_slice(), document.as_bytes(), &mut out);
-    assert_eq!(rt; ended.status, Done);
+    let ended = run_text(rt, alloc, words.as_slice(), document.as_bytes(), out);
+    if ended.status != Done {
+        return Err(Fail::new(format_args!("not renewed: {document}")));
+    }
+    Ok(())
+}
+
+/// What `renew` writes of a document: the same in version 3.
+fn renewed<R: Threads + Wait + Sync>(
+    rt: &R,
+    alloc: Global,
+    document: &str,
+) -> Result<Vec<u8>, Fail> {
+    let mut out = SureSink::new(alloc, 4096)?;
+    renew_into(rt, alloc, document, &mut out)?;
     let mut whole: Vec<u8> = Vec::new(alloc);
     whole.extend_from_slice(out.bytes())?;
     Ok(whole)
 }
 
 /// The command writes the same of each document in versions 1, 2 and 3.
-pub(crate) fn check_told<R: Abort + Threads + Wait + Sync>(
+pub(crate) fn check_told<R: Threads + Wait + Sync>(
     rt: &R,
     alloc: Global,
     word: &str,
     rows: &[Told],
-) -> Result<(), AllocError> {
+) -> Result<(), Fail> {
     for (pieces, text) in rows {
         let first = joined(alloc, pieces)?;
         let second = first.replacen(alloc, "amoebot 1\n", "amoebot 2\n", 1)?;
@@ -337,42 +302,36 @@ pub(crate) fn check_told<R: Abort + Threads + Wait + Sync>(
 
 #[test]
 fn without_an_entry_no_round_ends(rt: HostRuntime) -> Result<(), Fail> {
-    check_told(&rt, rt.alloc(), "rounds", &NOBODY_ACTS)?;
-    Ok(())
+    check_told(&rt, rt.alloc(), "rounds", &NOBODY_ACTS)
 }
 
 #[test]
 fn a_round_ends_when_each_has_acted_or_rested(rt: HostRuntime) -> Result<(), Fail> {
-    check_told(&rt, rt.alloc(), "rounds", &ROUNDED)?;
-    Ok(())
+    check_told(&rt, rt.alloc(), "rounds", &ROUNDED)
 }
 
 #[test]
 fn what_another_one_enables_waits_in_the_next_round(rt: HostRuntime) -> Result<(), Fail> {
-    check_told(&rt, rt.alloc(), "rounds", &ENABLED_BY_OTHERS)?;
-    Ok(())
+    check_told(&rt, rt.alloc(), "rounds", &ENABLED_BY_OTHERS)
 }
 
 #[test]
 fn an_amoebot_that_never_acts_holds_up_the_round(rt: HostRuntime) -> Result<(), Fail> {
-    check_told(&rt, rt.alloc(), "rounds", &ROWS_OF_AMOEBOTS)?;
-    Ok(())
+    check_told(&rt, rt.alloc(), "rounds", &ROWS_OF_AMOEBOTS)
 }
 
 #[test]
 fn rounds_differ_as_replay_does(rt: HostRuntime) -> Result<(), Fail> {
     check_rows(&rt, rt.alloc(), &COUNTED)?;
     check_different(&rt, rt.alloc(), &["rounds"], &old_values::COMPARED)?;
-    check_different(&rt, rt.alloc(), &["rounds"], &tampered::COMPARED)?;
-    Ok(())
+    check_different(&rt, rt.alloc(), &["rounds"], &tampered::COMPARED)
 }
 
 #[test]
 fn rounds_refuse_what_replay_refuses(rt: HostRuntime) -> Result<(), Fail> {
     check_refused(&rt, rt.alloc(), &["rounds"], &renewals::REFUSED)?;
     check_refused(&rt, rt.alloc(), &["rounds"], &old_values::REFUSED)?;
-    check_refused(&rt, rt.alloc(), &["rounds"], &tampered::REFUSED)?;
-    Ok(())
+    check_refused(&rt, rt.alloc(), &["rounds"], &tampered::REFUSED)
 }
 
 // ---- journals of runs on threads
@@ -384,7 +343,7 @@ fn push_lists(
     bots: u16,
     lists: u16,
     turns: u16,
-) -> Result<(), AllocError> {
+) -> Result<(), Fail> {
     let head = format!(in alloc; "lists\nturns {turns}\n")?;
     text.push_str(&head)?;
     for caller in 0..lists {
@@ -443,13 +402,11 @@ fn table_of(alloc: Global, document: &str, report: &Report) -> Result<Table, Fai
 }
 
 /// Runs the document. What `rounds` writes of its journal is what the table says.
-fn check_run<R: Abort + Threads + Wait + Sync>(
-    rt: &R,
-    alloc: Global,
-    document: &str,
-) -> Result<(), Fail> {
-    let Replayed { report, whole } = run_and_replay(rt, alloc, "run", document)?;
-    assert!(rt; !report.journal.entries().is_empty());
+fn check_run<R: Threads + Wait + Sync>(rt: &R, alloc: Global, document: &str) -> Result<(), Fail> {
+    let Replayed { report, whole } = run_and_replay(rt, alloc, "run", document, &NoGate)?;
+    if report.journal.entries().is_empty() {
+        return Err(Fail::from("no entry"));
+    }
     let (rounds, waiting) = table_of(alloc, document, &report)?.rounds();
     let text = format!(in alloc; "rounds {rounds}\nwaiting {waiting}\n")?;
     check(
@@ -460,8 +417,7 @@ fn check_run<R: Abort + Threads + Wait + Sync>(
         Done,
         None,
         text.as_str(),
-    )?;
-    Ok(())
+    )
 }
 
 #[test]
