@@ -2,7 +2,7 @@ use Rattle.std.proofs.Common.{map, ap}
 use Rattle.std.specs.Prelude.{is_some}
 use Rattle.claim_rule.specs.Seating.{SeatsOf}
 use Rattle.claim_rule.proofs.Places.{is_out, is_back}
-use Rattle.claim_tests.proofs.claim_rows.with_both_seats.Goals as goal
+use Rattle.zone_tests.proofs.claim_rows.with_both_seats.Goals as goal
 
 pub give-requires-clause-out : goal.give-requires-clause-out
 give-requires-clause-out g c κs =

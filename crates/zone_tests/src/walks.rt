@@ -3,7 +3,7 @@ ghost use Rattle.std.specs.List.{All};
 ghost use Rattle.amoebot_state.specs.Configs.{bot_at};
 ghost use Rattle.claim_core.specs.declared.state.Phase.TheVariants.{Refusing};
 ghost use Rattle.claim_rule.specs.Tokens.{IsOf, doing};
-ghost use Rattle.claim_tests.specs.Walks.{IsWalker};
+ghost use Rattle.zone_tests.specs.Walks.{IsWalker};
 
 use crate::field_fixtures::{begun, whole};
 use crate::fields::{field_of, seat_of};

@@ -1,7 +1,7 @@
 use Rattle.std.proofs.Common.{[], ◌∷◌}
 use Rattle.std.proofs.lemmas.List.Elements.{All-cons, All-nil}
 use Rattle.amoebot_state.specs.Refusals.{IsBotInRange}
-use Rattle.claim_tests.proofs.zones.a_zone_has_nineteen_cells.Goals as goal
+use Rattle.zone_tests.proofs.zones.a_zone_has_nineteen_cells.Goals as goal
 
 pub has_zone-requires-clause-plain : goal.has_zone-requires-clause-plain
 has_zone-requires-clause-plain g c =

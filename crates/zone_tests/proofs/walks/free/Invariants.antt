@@ -1,6 +1,6 @@
 use Rattle.std.proofs.Common.{length}
 use Rattle.claim_rule.specs.Tokens.{IsOf, doing}
-use Rattle.claim_tests.proofs.walks.free.Given as goal
+use Rattle.zone_tests.proofs.walks.free.Given as goal
 
 abbrev pub invariant-loop-freeing : goal.invariant-loop-freeing
 invariant-loop-freeing l = IsOf l.field l.freeing
