@@ -35,9 +35,9 @@ fn entries_in(ended: &Ended) -> Option<usize> {
     }
 }
 
-/// Whether the call wrote this text, and all of it.
-fn wrote(out: &SureSink, text: &str) -> bool {
-    out.whole() && out.bytes() == text.as_bytes()
+/// Whether the call ended so, and wrote this text and all of it.
+pub fn is_answer(ended: &Ended, out: &SureSink, status: Status, text: &str) -> bool {
+    ended.status == status && out.whole() && out.bytes() == text.as_bytes()
 }
 
 /// Runs the bytes. The status, the number of entries of the report, if there is one, and the text have to be these.
@@ -53,13 +53,13 @@ pub fn check<R: Threads + Wait + Sync>(
     let words = words(alloc, texts)?;
     let mut out = SureSink::new(alloc, 4096)?;
     let ended = run_text(rt, alloc, words.as_slice(), bytes, &mut out);
-    if !wrote(&out, text) {
-        return Err(Fail::new(format_args!("{texts:?} did not write: {text}")));
+    if is_answer(&ended, &out, status, text) && entries_in(&ended) == entries {
+        Ok(())
+    } else {
+        Err(Fail::new(format_args!(
+            "{texts:?} did not end with {status:?} and {entries:?} entries, and write: {text}"
+        )))
     }
-    if ended.status != status || entries_in(&ended) != entries {
-        return Err(Fail::new(format_args!("{texts:?} ended in another way: {text}")));
-    }
-    Ok(())
 }
 
 /// The word of each row does what the row says.

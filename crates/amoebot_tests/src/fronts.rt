@@ -150,6 +150,25 @@ fn is_near_border(front: &[u8], rest: &[u8]) -> bool {
     }
 }
 
+/// The bytes are refused so.
+fn check_refused<R: Threads + Wait + Sync>(
+    rt: &R,
+    alloc: Global,
+    word: &str,
+    bytes: &[u8],
+    refusal: Refusal,
+) -> Result<(), Fail> {
+    let name = match refusal.kind {
+        BadByte => "BadByte",
+        Truncated => "Truncated",
+        Trailing => "Trailing",
+        _ => "Unexpected",
+    };
+    let text = format!(in alloc; "refused {} {name}\n", refusal.line)?;
+    let status = Status::Refused(refusal);
+    check(rt, alloc, &[word], bytes, status, None, text.as_str())
+}
+
 /// What the front is answered: the status, the entries of the report and the text.
 fn check_front<R: Threads + Wait + Sync>(
     rt: &R,
@@ -160,22 +179,7 @@ fn check_front<R: Threads + Wait + Sync>(
     wholes: &[Whole],
 ) -> Result<(), Fail> {
     if let Some(refusal) = front.fault(wholes) {
-        let name = match refusal.kind {
-            BadByte => "BadByte",
-            Truncated => "Truncated",
-            Trailing => "Trailing",
-            _ => "Unexpected",
-        };
-        let text = format!(in alloc; "refused {} {name}\n", refusal.line)?;
-        return check(
-            rt,
-            alloc,
-            &[word],
-            bytes,
-            Status::Refused(refusal),
-            None,
-            text.as_str(),
-        );
+        return check_refused(rt, alloc, word, bytes, refusal);
     }
     for (ends, status, entries, text) in wholes {
         if *ends == front.ends {

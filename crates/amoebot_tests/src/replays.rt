@@ -26,6 +26,23 @@ fn is_done_by(ended: &Ended, word: &str) -> bool {
         && ended.tickets.is_some() == (word == "tickets")
 }
 
+/// The report of a call that is done.
+fn report_in(ended: Ended, word: &str) -> Result<Report, Fail> {
+    if !is_done_by(&ended, word) {
+        return Err(Fail::new(format_args!("{word} is not done")));
+    }
+    let Ended {
+        status: _,
+        report,
+        turns: _,
+        tickets: _,
+    } = ended;
+    match report {
+        Some(report) => Ok(report),
+        None => Err(Fail::from("a report")),
+    }
+}
+
 /// Runs the document by a word, with this gate.
 fn report_by<R: Threads + Wait + Sync, G: Gate>(
     rt: &R,
@@ -37,11 +54,10 @@ fn report_by<R: Threads + Wait + Sync, G: Gate>(
 ) -> Result<Report, Fail> {
     let words = words(alloc, &[word])?;
     let mut input = SureSource::new(alloc, document.as_bytes())?;
-    let ended = run(rt, alloc, words.as_slice(), &mut input, out, gate);
-    if !is_done_by(&ended, word) {
-        return Err(Fail::new(format_args!("{word} is not done: {document}")));
-    }
-    Ok(ended.report.ok_or("a report")?)
+    report_in(
+        run(rt, alloc, words.as_slice(), &mut input, out, gate),
+        word,
+    )
 }
 
 /// The same, with the text behind the document.

@@ -34,6 +34,19 @@ pub(crate) fn call<R: Threads + Wait + Sync, S: Source, K: Sink>(
     Ok(run(rt, alloc, words.as_slice(), input, out, &NoGate))
 }
 
+/// The call ended so, and wrote this text and all of it.
+pub(crate) fn says(rt: &impl Abort, ended: &Ended, out: &SureSink, status: Status, text: &str) {
+    assert_eq!(rt; ended.status, status);
+    assert_eq!(rt; out.bytes(), text.as_bytes());
+    assert!(rt; out.whole());
+}
+
+/// Neither a report nor turns nor tickets came.
+pub(crate) fn has_nothing(rt: &impl Abort, ended: &Ended) {
+    assert!(rt; ended.report.is_none());
+    assert!(rt; ended.turns.is_none() && ended.tickets.is_none());
+}
+
 /// Calls `run` with the words, and compares the status and what is written of it. No report comes.
 fn check_line<R: Abort + Threads + Wait + Sync, S: Source>(
     rt: &R,
@@ -42,16 +55,11 @@ fn check_line<R: Abort + Threads + Wait + Sync, S: Source>(
     input: &mut S,
     status: Status,
     line: &str,
-) -> Result<(), AllocError> {
-    let Ok(mut out) = SureSink::new(alloc, 4096) else {
-        return Err(AllocError);
-    };
+) -> Result<(), Fail> {
+    let mut out = SureSink::new(alloc, 4096)?;
     let ended = call(rt, alloc, texts, input, &mut out)?;
-    assert_eq!(rt; ended.status, status);
-    assert!(rt; ended.report.is_none());
-    assert!(rt; ended.turns.is_none() && ended.tickets.is_none());
-    assert_eq!(rt; out.bytes(), line.as_bytes());
-    assert!(rt; out.whole());
+    says(rt, &ended, &out, status, line);
+    has_nothing(rt, &ended);
     Ok(())
 }
 
@@ -176,12 +184,24 @@ impl Sink for FailingSink {
     }
 }
 
+/// Calls `run` with the words, as above. Nothing is read.
+fn check_unread<R: Abort + Threads + Wait + Sync>(
+    rt: &R,
+    alloc: Global,
+    texts: &[&str],
+    status: Status,
+    line: &str,
+) -> Result<(), Fail> {
+    let mut input = unread(alloc)?;
+    check_line(rt, alloc, texts, &mut input, status, line)?;
+    assert!(rt; is_unread(&mut input), "{texts:?}");
+    Ok(())
+}
+
 #[test]
 fn judges_the_words_before_it_reads(rt: HostRuntime) -> Result<(), Fail> {
     for texts in &NO_COMMANDS {
-        let mut input = unread(rt.alloc())?;
-        check_line(&rt, rt.alloc(), texts, &mut input, Status::Words, USAGE)?;
-        assert!(rt; is_unread(&mut input));
+        check_unread(&rt, rt.alloc(), texts, Status::Words, USAGE)?;
     }
     Ok(())
 }
@@ -189,16 +209,7 @@ fn judges_the_words_before_it_reads(rt: HostRuntime) -> Result<(), Fail> {
 #[test]
 fn shipped_programs_are_shown_and_nothing_is_read(rt: HostRuntime) -> Result<(), Fail> {
     for (name, text) in &SHOWN {
-        let mut input = unread(rt.alloc())?;
-        check_line(
-            &rt,
-            rt.alloc(),
-            &["show", name],
-            &mut input,
-            Status::Done,
-            text,
-        )?;
-        assert!(rt; is_unread(&mut input));
+        check_unread(&rt, rt.alloc(), &["show", name], Status::Done, text)?;
     }
     Ok(())
 }

@@ -5,7 +5,7 @@ use crate::faults::FAULTS;
 use crate::pieces::{Fault, ONE, OUT, Row, TWO_TURNS};
 use crate::runs::{RUNS, WHOLE_PROGRAMS};
 use crate::walls::{COMMANDS as WALLED, REFUSED};
-use amoebot_run::{Status, run_text};
+use amoebot_run::{Ended, Status, run_text};
 use outer_io::SureSink;
 use std::alloc::Global;
 use std::process::Abort;
@@ -91,24 +91,40 @@ fn tickets_refuse_what_run_refuses(rt: HostRuntime) -> Result<(), Fail> {
 /// A document for each of the words below.
 const SCHEDULED: &[&str] = &[OUT, ONE, TWO_TURNS, "schedule\nend\n"];
 
-/// Whether turns come with a word, and whether tickets do.
-fn comes_with<R: Threads + Wait + Sync>(
+/// Each word, whether turns come with it, and whether tickets do.
+static COMING: [(&str, bool, bool); 4] = [
+    ("run", true, false),
+    ("tickets", false, true),
+    ("interleave", false, false),
+    ("check", false, false),
+];
+
+/// Turns came or not, and tickets came or not.
+fn came(rt: &impl Abort, ended: &Ended, turns: bool, tickets: bool) {
+    assert_eq!(rt; ended.turns.is_some(), turns);
+    assert_eq!(rt; ended.tickets.is_some(), tickets);
+}
+
+/// By the word the document leaves turns or none, and tickets or none.
+fn check_coming<R: Abort + Threads + Wait + Sync>(
     rt: &R,
     alloc: Global,
-    word: &str,
-) -> Result<(bool, bool), Fail> {
-    let document = joined(alloc, SCHEDULED)?;
+    document: &str,
+    coming: &(&str, bool, bool),
+) -> Result<(), Fail> {
+    let (word, turns, tickets) = coming;
     let words = words(alloc, &[word])?;
     let mut out = SureSink::new(alloc, 4096)?;
     let ended = run_text(rt, alloc, words.as_slice(), document.as_bytes(), &mut out);
-    Ok((ended.turns.is_some(), ended.tickets.is_some()))
+    came(rt, &ended, *turns, *tickets);
+    Ok(())
 }
 
 #[test]
 fn tickets_come_with_tickets_alone(rt: HostRuntime) -> Result<(), Fail> {
-    assert_eq!(rt; comes_with(&rt, rt.alloc(), "run")?, (true, false));
-    assert_eq!(rt; comes_with(&rt, rt.alloc(), "tickets")?, (false, true));
-    assert_eq!(rt; comes_with(&rt, rt.alloc(), "interleave")?, (false, false));
-    assert_eq!(rt; comes_with(&rt, rt.alloc(), "check")?, (false, false));
+    let document = joined(rt.alloc(), SCHEDULED)?;
+    for coming in &COMING {
+        check_coming(&rt, rt.alloc(), document.as_str(), coming)?;
+    }
     Ok(())
 }
