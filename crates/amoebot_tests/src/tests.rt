@@ -194,7 +194,7 @@ fn check_unread<R: Abort + Threads + Wait + Sync>(
 ) -> Result<(), Fail> {
     let mut input = unread(alloc)?;
     check_line(rt, alloc, texts, &mut input, status, line)?;
-    assert!(rt; is_unread(&mut input), "{texts:?}");
+    assert!(rt; is_unread(&mut input));
     Ok(())
 }
 

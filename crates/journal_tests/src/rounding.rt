@@ -343,7 +343,7 @@ fn push_lists(
     bots: u16,
     lists: u16,
     turns: u16,
-) -> Result<(), Fail> {
+) -> Result<(), AllocError> {
     let head = format!(in alloc; "lists\nturns {turns}\n")?;
     text.push_str(&head)?;
     for caller in 0..lists {
