@@ -3,7 +3,7 @@ use Rattle.std.proofs.Common.{◌≡◌, ℕ, zero, suc, ◌+◌, ◌≤◌, Lis
 use Rattle.std.specs.Prelude.{slice_get, if◌then◌else◌}
 use Rattle.std.specs.List.{All}
 use Rattle.std.proofs.lemmas.Bool.{le-ltb}
-use Rattle.std.proofs.lemmas.List.{length-map}
+use Rattle.std.proofs.lemmas.List.{length-map, map-id}
 use Rattle.std.proofs.lemmas.Option.{none-some, same_Some, slice_get_within, slice_get-get_or, get_or_from_slice_get}
 use mathlib.Core.List.{map-map}
 use Rattle.amoebot_state.specs.declared.verdict.Verdict.{Verdict}
@@ -13,6 +13,7 @@ use Rattle.claim_core.specs.declared.state.Phase.TheVariants.{Claim, Ended}
 use Rattle.claim_core.specs.Turns.{MarkLists}
 use Rattle.claim_core.specs.Machine.{fresh}
 use Rattle.claim_core.proofs.Places.{map-get, get-map, of_a_list}
+use Rattle.claim_rule.specs.declared.views.Terms.{Terms}
 use Rattle.claim_rule.specs.Views.{setup_of_terms}
 use Rattle.claim_rule.specs.Tokens.{FieldOf, Token, number_in, doing}
 use Rattle.claim_rule.specs.Seating.{SeatsOf, AreOf}
@@ -125,6 +126,21 @@ module _ {D S A W : Type 0} (verdict : D → Shown → Verdict) (token : S → T
 pub marks_told : {A W : Type 0} (told : A → Turn W) (answers : List (Vec A Global)) → map (map (λ a. mark_of (told a))) (map (λ own. own.items) answers) ≡ map marks_in (lists_told told answers)
 marks_told told [] = refl
 marks_told told (own ∷ answers) = λ i. sym (map-map mark_of told own.items) i ∷ marks_told told answers i
+
+-- where the answers are the turns themselves
+pub told_is : {W : Type 0} (turns : List (Vec (Turn W) Global)) → lists_told (λ turn. turn) turns ≡ map (λ own. own.items) turns
+told_is [] = refl
+told_is (own ∷ turns) = λ i. map-id own.items i ∷ told_is turns i
+
+-- what ended seats of all callers give of their marks holds of the marks of the report, whatever the terms are called
+pub of_all_made : {D W : Type 0} (f : FieldOf D) (seats : SeatsOf D) (marks : MarkLists) (turns : List (List (Turn W))) → AreAllMade f seats marks turns
+    → (z : Terms D) → f.terms ≡ z → (P : MarkLists → Type 0)
+    → (length seats.seats ≡ length z.lists.ids → All (λ seat. IsSome seat) seats.seats → All (λ seat. IfSome seat (λ token. (doing token).phase ≡ Ended)) seats.seats → P (record { turns = z.lists.turns; marks = map marks_at_seat seats.seats }))
+    → P marks
+of_all_made {D} f seats marks turns made z terms P ended =
+    let count = made.count ∙ ap (λ (y : Terms D). length y.lists.ids) terms in
+    let same : record { turns = z.lists.turns; marks = map marks_at_seat seats.seats } ≡ marks = sym (made.marks ∙ ap (λ (y : Terms D). record { turns = y.lists.turns; marks = map marks_at_seat seats.seats }) terms) in
+    subst P same (ended count made.there made.ended)
 
 -- a vector whose elements were written through a slice has these
 pub written : {A : Type 0} (now old : List A) (n : ℕ) → length now ≡ length old → n ≡ length old → take n (now ++ drop (length now) old) ≡ now

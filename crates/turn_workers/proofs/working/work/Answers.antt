@@ -13,8 +13,8 @@ use Rattle.claim_rule.specs.declared.manner.ByJournal.{ByJournal}
 use Rattle.node_claims.specs.declared.turn.Turn.{Turn}
 use Rattle.turn_desks.specs.Turns.{AreTurnsOf, lists_told, marks_in}
 use Rattle.turn_desks.specs.Desks.{AreClear, AreTaken, AreAllMade, HaveMade, seat_at, turns_at}
-use Rattle.turn_desks.proofs.MadeTurns.{first_have, are_taken, all_turns, are_made, written, as_many}
-use Rattle.turn_workers.proofs.WorkEnds.{is_report, told_is}
+use Rattle.turn_desks.proofs.MadeTurns.{first_have, are_taken, all_turns, are_made, told_is, written, as_many}
+use Rattle.turn_workers.proofs.WorkEnds.{is_report}
 use Rattle.turn_workers.proofs.working.work.Given.{Over}
 use Rattle.turn_workers.proofs.working.work.Goals.{After-activate_all, After-copy_marks}
 use Rattle.turn_workers.proofs.working.work.Goals as goal
