@@ -67,11 +67,6 @@ pub static SHOWN: [(&str, &str); 3] = [
     ),
 ];
 
-/// The line that is written of words that are no command.
-pub const USAGE: &str =
-    "usage: run / interleave / replay / check / measure / show NAME / sample NUMBER \
-    / renew / rewind NUMBER / rounds / elect / tickets\n";
-
 /// Words that are no command.
 pub static NO_COMMANDS: [&[&str]; 66] = [
     &[],

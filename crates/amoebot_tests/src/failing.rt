@@ -1,12 +1,11 @@
 //! Reads and writes that fail: each one of a call in turn, and what stands then.
 
+use crate::calls::joined;
 use crate::commands::{COMPARED_AND_CHECKED, INTERLEAVINGS, MEASURED, SHOWN};
-use crate::electing::OLD_VALUES;
+use crate::journals::{COUNTED, DIFFERENT, ELECTIONS, RENEWED};
 use crate::pieces::{Row, WORKED};
-use crate::renewals::{DIFFERENT, RENEWED};
-use crate::rounding::COUNTED;
-use crate::tests::{call, joined};
-use amoebot_run::Status;
+use crate::tests::{call, has_nothing, says};
+use amoebot_run::{Ended, Status};
 use outer_io::{Failed, MemSink, MemSource, Source, SureSink, SureSource};
 use std::alloc::Global;
 use std::process::Abort;
@@ -43,9 +42,7 @@ fn check_read<R: Abort + Threads + Wait + Sync>(
     let mut input = MemSource::new(alloc, case.document.as_bytes(), PIECE, &[failing])?;
     let mut out = SureSink::new(alloc, 4096)?;
     let ended = call(rt, alloc, &[case.word], &mut input, &mut out)?;
-    assert_eq!(rt; ended.status, status);
-    assert_eq!(rt; out.bytes(), text.as_bytes());
-    assert!(rt; out.whole());
+    says(rt, &ended, &out, status, text);
     Ok(())
 }
 
@@ -75,13 +72,17 @@ fn check_write<R: Abort + Threads + Wait + Sync>(
     let mut input = SureSource::new(alloc, case.document.as_bytes())?;
     let mut out = MemSink::new(alloc, room, PIECE, failing)?;
     let ended = call(rt, alloc, &[case.word], &mut input, &mut out)?;
+    took(rt, &ended, &out, status, taken);
+    Ok(())
+}
+
+/// The call ended so, and the sink took these bytes. Where a write failed, nothing else came.
+fn took(rt: &impl Abort, ended: &Ended, out: &MemSink, status: Status, taken: &[u8]) {
     assert_eq!(rt; ended.status, status);
     assert_eq!(rt; out.bytes(), taken);
     if status == Status::WriteFault {
-        assert!(rt; ended.report.is_none());
-        assert!(rt; ended.turns.is_none() && ended.tickets.is_none());
+        has_nothing(rt, ended);
     }
-    Ok(())
 }
 
 /// Each write of the text fails in turn: then ten bytes of it are there for each write before.
@@ -194,8 +195,8 @@ fn each_failing_call_of_a_count_of_rounds_gives_its_status(rt: HostRuntime) -> R
 
 #[test]
 fn each_failing_call_of_an_election_gives_its_status(rt: HostRuntime) -> Result<(), Fail> {
-    check_each_call(&rt, rt.alloc(), &OLD_VALUES[0])?;
-    check_each_call(&rt, rt.alloc(), &OLD_VALUES[1])
+    check_each_call(&rt, rt.alloc(), &ELECTIONS[0])?;
+    check_each_call(&rt, rt.alloc(), &ELECTIONS[1])
 }
 
 /// The text of a shipped program is its own canonical text.

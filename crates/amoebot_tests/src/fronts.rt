@@ -4,16 +4,13 @@
 //! Or it ends inside a token. What is left of a number is a number, and what is left of another word is a name where a
 //! name may stand. Else that token is at fault.
 
+use crate::calls::{check, joined};
 use crate::commands::{COMPARED_AND_CHECKED, INTERLEAVINGS, MEASURED, SHOWN};
-use crate::electing::OLD_VALUES;
+use crate::journals::{COUNTED, ELECTIONS, RENEWED};
 use crate::pieces::{Row, WORKED};
-use crate::renewals::RENEWED;
-use crate::rounding::COUNTED;
-use crate::tests::{check, joined};
 use amoebot_run::Status;
 use std::alloc::{AllocError, Global};
 use std::mem;
-use std::process::Abort;
 use std::sync::Wait;
 use std::test::Fail;
 use std::thread::Threads;
@@ -153,32 +150,36 @@ fn is_near_border(front: &[u8], rest: &[u8]) -> bool {
     }
 }
 
+/// The bytes are refused so.
+fn check_refused<R: Threads + Wait + Sync>(
+    rt: &R,
+    alloc: Global,
+    word: &str,
+    bytes: &[u8],
+    refusal: Refusal,
+) -> Result<(), Fail> {
+    let name = match refusal.kind {
+        BadByte => "BadByte",
+        Truncated => "Truncated",
+        Trailing => "Trailing",
+        _ => "Unexpected",
+    };
+    let text = format!(in alloc; "refused {} {name}\n", refusal.line)?;
+    let status = Status::Refused(refusal);
+    check(rt, alloc, &[word], bytes, status, None, text.as_str())
+}
+
 /// What the front is answered: the status, the entries of the report and the text.
-fn check_front<R: Abort + Threads + Wait + Sync>(
+fn check_front<R: Threads + Wait + Sync>(
     rt: &R,
     alloc: Global,
     word: &str,
     bytes: &[u8],
     front: &Front,
     wholes: &[Whole],
-) -> Result<(), AllocError> {
+) -> Result<(), Fail> {
     if let Some(refusal) = front.fault(wholes) {
-        let name = match refusal.kind {
-            BadByte => "BadByte",
-            Truncated => "Truncated",
-            Trailing => "Trailing",
-            _ => "Unexpected",
-        };
-        let text = format!(in alloc; "refused {} {name}\n", refusal.line)?;
-        return check(
-            rt,
-            alloc,
-            &[word],
-            bytes,
-            Status::Refused(refusal),
-            None,
-            text.as_str(),
-        );
+        return check_refused(rt, alloc, word, bytes, refusal);
     }
     for (ends, status, entries, text) in wholes {
         if *ends == front.ends {
@@ -189,14 +190,14 @@ fn check_front<R: Abort + Threads + Wait + Sync>(
 }
 
 /// Compares the answer to each proper front of the document, or to each that ends at most one byte behind the border of a token.
-fn check_fronts<R: Abort + Threads + Wait + Sync>(
+fn check_fronts<R: Threads + Wait + Sync>(
     rt: &R,
     alloc: Global,
     word: &str,
     document: &str,
     wholes: &[Whole],
     every: bool,
-) -> Result<(), AllocError> {
+) -> Result<(), Fail> {
     let mut front = Front::new(alloc);
     let bytes = document.as_bytes();
     for (at, byte) in bytes.iter().enumerate() {
@@ -218,17 +219,16 @@ fn each_front_of_a_document_is_truncated_or_unexpected(rt: HostRuntime) -> Resul
     let document = joined(rt.alloc(), WORKED.1)?;
     let text = joined(rt.alloc(), WORKED.4)?;
     let wholes = [(3, WORKED.2, WORKED.3, text.as_str())];
-    check_fronts(&rt, rt.alloc(), "run", document.as_str(), &wholes, true)?;
-    Ok(())
+    check_fronts(&rt, rt.alloc(), "run", document.as_str(), &wholes, true)
 }
 
 /// Fronts of a document that is whole behind its last `end` alone.
-fn check_row<R: Abort + Threads + Wait + Sync>(
+fn check_row<R: Threads + Wait + Sync>(
     rt: &R,
     alloc: Global,
     row: &Row,
     ends: u32,
-) -> Result<(), AllocError> {
+) -> Result<(), Fail> {
     let document = joined(alloc, row.1)?;
     let text = joined(alloc, row.4)?;
     let wholes = [(ends, row.2, row.3, text.as_str())];
@@ -237,34 +237,29 @@ fn check_row<R: Abort + Threads + Wait + Sync>(
 
 #[test]
 fn fronts_of_an_interleaving_end_in_its_schedule(rt: HostRuntime) -> Result<(), Fail> {
-    check_row(&rt, rt.alloc(), &INTERLEAVINGS[0], 4)?;
-    Ok(())
+    check_row(&rt, rt.alloc(), &INTERLEAVINGS[0], 4)
 }
 
 #[test]
 fn fronts_of_a_journal_end_before_its_last_shape(rt: HostRuntime) -> Result<(), Fail> {
-    check_row(&rt, rt.alloc(), &COMPARED_AND_CHECKED[2], 4)?;
-    Ok(())
+    check_row(&rt, rt.alloc(), &COMPARED_AND_CHECKED[2], 4)
 }
 
 /// The document has old values in its journal.
 #[test]
 fn fronts_of_a_renewed_document_end_before_its_last_shape(rt: HostRuntime) -> Result<(), Fail> {
-    check_row(&rt, rt.alloc(), &RENEWED[1], 4)?;
-    Ok(())
+    check_row(&rt, rt.alloc(), &RENEWED[1], 4)
 }
 
 #[test]
 fn fronts_of_a_counted_journal_end_before_its_last_shape(rt: HostRuntime) -> Result<(), Fail> {
-    check_row(&rt, rt.alloc(), &COUNTED[0], 4)?;
-    Ok(())
+    check_row(&rt, rt.alloc(), &COUNTED[0], 4)
 }
 
 /// The document has old values in its journal.
 #[test]
 fn fronts_of_an_election_end_before_its_last_shape(rt: HostRuntime) -> Result<(), Fail> {
-    check_row(&rt, rt.alloc(), &OLD_VALUES[0], 4)?;
-    Ok(())
+    check_row(&rt, rt.alloc(), &ELECTIONS[0], 4)
 }
 
 /// The shape alone is a document too, so behind it a word that begins no section is Trailing.
@@ -285,8 +280,7 @@ fn fronts_of_a_measured_document_may_end_behind_the_shape(rt: HostRuntime) -> Re
         document.as_str(),
         &wholes,
         false,
-    )?;
-    Ok(())
+    )
 }
 
 /// A program with a shape and lists behind it: each of these sections may be the last.
@@ -301,8 +295,7 @@ fn fronts_of_a_checked_document_may_end_behind_each_section(rt: HostRuntime) -> 
         (3, Status::Done, None, text),
         (4, Status::Done, None, text),
     ];
-    check_fronts(&rt, rt.alloc(), "check", document.as_str(), &wholes, false)?;
-    Ok(())
+    check_fronts(&rt, rt.alloc(), "check", document.as_str(), &wholes, false)
 }
 
 /// The text of a shipped program.
@@ -310,6 +303,5 @@ fn fronts_of_a_checked_document_may_end_behind_each_section(rt: HostRuntime) -> 
 fn fronts_of_a_program_end_before_its_end(rt: HostRuntime) -> Result<(), Fail> {
     let text = SHOWN[0].1;
     let wholes = [(1, Status::Done, None, text)];
-    check_fronts(&rt, rt.alloc(), "check", text, &wholes, false)?;
-    Ok(())
+    check_fronts(&rt, rt.alloc(), "check", text, &wholes, false)
 }

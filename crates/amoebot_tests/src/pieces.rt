@@ -24,9 +24,6 @@ pub type Fault = (
     &'static str,
 );
 
-/// The words that make the turns of each list by a worker of its own.
-pub const ON_THREADS: [&str; 2] = ["run", "tickets"];
-
 // ---- programs
 
 /// A contracted amoebot expands. Four lines.
@@ -97,6 +94,11 @@ pub const ONE_EACH: &str = "lists\nturns 1\nlist 0\nlist 1\nend\n";
 pub const TWO_EACH: &str = "lists\nturns 2\nlist 0\nlist 1\nend\n";
 
 // ---- what is written
+
+/// The line that is written of words that are no command.
+pub const USAGE: &str =
+    "usage: run / interleave / replay / check / measure / show NAME / sample NUMBER \
+    / renew / rewind NUMBER / rounds / elect / tickets\n";
 
 pub const NO_ENTRY: &str = "journal\nend\n";
 

@@ -1,8 +1,8 @@
 //! Documents that are run, with what is written of them.
 
 use crate::pieces::{
-    DONE, EXPANDED, GUARDED, MARK, NO_ENTRY, ONE, ONE_EACH, ONE_TURN, OUT, PULL, PULLED, PUSH, Row,
-    TRAILED, TWO, TWO_TURNS, UNGUARDED, WORKED,
+    DONE, GUARDED, MARK, NO_ENTRY, ONE, ONE_EACH, ONE_TURN, OUT, PULL, PULLED, PUSH, Row, TRAILED,
+    TWO, UNGUARDED, WORKED,
 };
 use amoebot_run::Status::Done;
 

@@ -1,12 +1,13 @@
 ghost use Rattle.std.specs.declared.option.Option.{Option};
 
-use crate::commands::{COMPARED_AND_CHECKED, INTERLEAVINGS, MEASURED, NO_COMMANDS, SHOWN, USAGE};
+use crate::calls::{check, check_faults, check_rows, joined, words};
+use crate::commands::{COMPARED_AND_CHECKED, INTERLEAVINGS, MEASURED, NO_COMMANDS, SHOWN};
 use crate::failing::{is_unread, unread};
 use crate::faults::FAULTS;
-use crate::pieces::{Fault, Row};
+use crate::pieces::USAGE;
 use crate::runs::{RUNS, WHOLE_PROGRAMS};
 use activation::NoGate;
-use amoebot_run::{Ended, Status, run, run_text};
+use amoebot_run::{Ended, Status, run};
 use arrayvec::ArrayVec;
 use outer_io::{Failed, Sink, Source, SureSink, SureSource};
 use std::alloc::{AllocError, Global};
@@ -21,87 +22,6 @@ const ON_ONE_LINE: &str =
     "amoebot 1 program action out when contracted move expand head 0 end shape area 0 0 8 8 bot 2 3 2 3 0 + \
                     end lists turns 2 list 0 end";
 
-pub(crate) fn words(alloc: Global, texts: &[&str]) -> Result<Vec<String>, AllocError> {
-    let mut words = Vec::new(alloc);
-    for text in texts {
-        words.push(String::from_str(alloc, text)?)?;
-    }
-    Ok(words)
-}
-
-pub(crate) fn joined(alloc: Global, pieces: &[&str]) -> Result<String, AllocError> {
-    let mut text = String::new(alloc);
-    for piece in pieces {
-        text.push_str(piece)?;
-    }
-    Ok(text)
-}
-
-/// Runs the bytes, and compares the status, the number of entries of the report, if there is one, and the text.
-pub(crate) fn check<R: Abort + Threads + Wait + Sync>(
-    rt: &R,
-    alloc: Global,
-    texts: &[&str],
-    bytes: &[u8],
-    status: Status,
-    entries: Option<usize>,
-    text: &str,
-) -> Result<(), AllocError> {
-    let words = words(alloc, texts)?;
-    let Ok(mut out) = SureSink::new(alloc, 4096) else {
-        return Err(AllocError);
-    };
-    let ended = run_text(rt, alloc, words.as_slice(), bytes, &mut out);
-    assert_eq!(rt; out.bytes(), text.as_bytes());
-    assert!(rt; out.whole());
-    assert_eq!(rt; ended.status, status);
-    let found = match &ended.report {
-        Some(report) => Some(report.journal.entries().len()),
-        None => None,
-    };
-    assert_eq!(rt; found, entries);
-    Ok(())
-}
-
-/// The word of each row does what the row says.
-pub(crate) fn check_rows<R: Abort + Threads + Wait + Sync>(
-    rt: &R,
-    alloc: Global,
-    rows: &[Row],
-) -> Result<(), AllocError> {
-    for (word, pieces, status, entries, texts) in rows {
-        let document = joined(alloc, pieces)?;
-        let text = joined(alloc, texts)?;
-        check(
-            rt,
-            alloc,
-            &[word],
-            document.as_bytes(),
-            *status,
-            *entries,
-            text.as_str(),
-        )?;
-    }
-    Ok(())
-}
-
-/// The word of each row refuses the document as the row says.
-pub(crate) fn check_faults<R: Abort + Threads + Wait + Sync>(
-    rt: &R,
-    alloc: Global,
-    faults: &[Fault],
-) -> Result<(), AllocError> {
-    for (word, pieces, line, kind, text) in faults {
-        let document = joined(alloc, pieces)?;
-        let status = Status::Refused(Refusal {
-            line: *line,
-            kind: *kind,
-        });
-        check(rt, alloc, &[word], document.as_bytes(), status, None, text)?;
-    }
-    Ok(())
-}
-
 /// Calls `run` with the words.
 pub(crate) fn call<R: Threads + Wait + Sync, S: Source, K: Sink>(
     rt: &R,
@@ -114,6 +34,19 @@ pub(crate) fn call<R: Threads + Wait + Sync, S: Source, K: Sink>(
     Ok(run(rt, alloc, words.as_slice(), input, out, &NoGate))
 }
 
+/// The call ended so, and wrote this text and all of it.
+pub(crate) fn says(rt: &impl Abort, ended: &Ended, out: &SureSink, status: Status, text: &str) {
+    assert_eq!(rt; ended.status, status);
+    assert_eq!(rt; out.bytes(), text.as_bytes());
+    assert!(rt; out.whole());
+}
+
+/// Neither a report nor turns nor tickets came.
+pub(crate) fn has_nothing(rt: &impl Abort, ended: &Ended) {
+    assert!(rt; ended.report.is_none());
+    assert!(rt; ended.turns.is_none() && ended.tickets.is_none());
+}
+
 /// Calls `run` with the words, and compares the status and what is written of it. No report comes.
 fn check_line<R: Abort + Threads + Wait + Sync, S: Source>(
     rt: &R,
@@ -122,53 +55,42 @@ fn check_line<R: Abort + Threads + Wait + Sync, S: Source>(
     input: &mut S,
     status: Status,
     line: &str,
-) -> Result<(), AllocError> {
-    let Ok(mut out) = SureSink::new(alloc, 4096) else {
-        return Err(AllocError);
-    };
+) -> Result<(), Fail> {
+    let mut out = SureSink::new(alloc, 4096)?;
     let ended = call(rt, alloc, texts, input, &mut out)?;
-    assert_eq!(rt; ended.status, status);
-    assert!(rt; ended.report.is_none());
-    assert!(rt; ended.turns.is_none() && ended.tickets.is_none());
-    assert_eq!(rt; out.bytes(), line.as_bytes());
-    assert!(rt; out.whole());
+    says(rt, &ended, &out, status, line);
+    has_nothing(rt, &ended);
     Ok(())
 }
 
 #[test]
 fn lists_are_run(rt: HostRuntime) -> Result<(), Fail> {
-    check_rows(&rt, rt.alloc(), &RUNS)?;
-    Ok(())
+    check_rows(&rt, rt.alloc(), &RUNS)
 }
 
 #[test]
 fn schedules_are_followed(rt: HostRuntime) -> Result<(), Fail> {
-    check_rows(&rt, rt.alloc(), &INTERLEAVINGS)?;
-    Ok(())
+    check_rows(&rt, rt.alloc(), &INTERLEAVINGS)
 }
 
 #[test]
 fn whole_programs_are_run(rt: HostRuntime) -> Result<(), Fail> {
-    check_rows(&rt, rt.alloc(), &WHOLE_PROGRAMS)?;
-    Ok(())
+    check_rows(&rt, rt.alloc(), &WHOLE_PROGRAMS)
 }
 
 #[test]
 fn journals_are_compared_and_programs_printed(rt: HostRuntime) -> Result<(), Fail> {
-    check_rows(&rt, rt.alloc(), &COMPARED_AND_CHECKED)?;
-    Ok(())
+    check_rows(&rt, rt.alloc(), &COMPARED_AND_CHECKED)
 }
 
 #[test]
 fn shapes_are_measured(rt: HostRuntime) -> Result<(), Fail> {
-    check_rows(&rt, rt.alloc(), &MEASURED)?;
-    Ok(())
+    check_rows(&rt, rt.alloc(), &MEASURED)
 }
 
 #[test]
 fn first_faults_are_told(rt: HostRuntime) -> Result<(), Fail> {
-    check_faults(&rt, rt.alloc(), &FAULTS)?;
-    Ok(())
+    check_faults(&rt, rt.alloc(), &FAULTS)
 }
 
 /// As many blanks as a document may have bytes, and one more.
@@ -262,12 +184,24 @@ impl Sink for FailingSink {
     }
 }
 
+/// Calls `run` with the words, as above. Nothing is read.
+fn check_unread<R: Abort + Threads + Wait + Sync>(
+    rt: &R,
+    alloc: Global,
+    texts: &[&str],
+    status: Status,
+    line: &str,
+) -> Result<(), Fail> {
+    let mut input = unread(alloc)?;
+    check_line(rt, alloc, texts, &mut input, status, line)?;
+    assert!(rt; is_unread(&mut input));
+    Ok(())
+}
+
 #[test]
 fn judges_the_words_before_it_reads(rt: HostRuntime) -> Result<(), Fail> {
     for texts in &NO_COMMANDS {
-        let mut input = unread(rt.alloc())?;
-        check_line(&rt, rt.alloc(), texts, &mut input, Status::Words, USAGE)?;
-        assert!(rt; is_unread(&mut input));
+        check_unread(&rt, rt.alloc(), texts, Status::Words, USAGE)?;
     }
     Ok(())
 }
@@ -275,16 +209,7 @@ fn judges_the_words_before_it_reads(rt: HostRuntime) -> Result<(), Fail> {
 #[test]
 fn shipped_programs_are_shown_and_nothing_is_read(rt: HostRuntime) -> Result<(), Fail> {
     for (name, text) in &SHOWN {
-        let mut input = unread(rt.alloc())?;
-        check_line(
-            &rt,
-            rt.alloc(),
-            &["show", name],
-            &mut input,
-            Status::Done,
-            text,
-        )?;
-        assert!(rt; is_unread(&mut input));
+        check_unread(&rt, rt.alloc(), &["show", name], Status::Done, text)?;
     }
     Ok(())
 }

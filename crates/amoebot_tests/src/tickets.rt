@@ -1,14 +1,13 @@
 //! The command `tickets`: documents of at most one list leave by it what they leave by `run`, and are refused as by `run`.
 
+use crate::calls::{check, joined, words};
 use crate::faults::FAULTS;
-use crate::old_values::{RUNS as VERSIONED, check_by};
 use crate::pieces::{Fault, ONE, OUT, Row, TWO_TURNS};
 use crate::runs::{RUNS, WHOLE_PROGRAMS};
-use crate::tests::{check, joined, words};
 use crate::walls::{COMMANDS as WALLED, REFUSED};
-use amoebot_run::{Status, run_text};
+use amoebot_run::{Ended, Status, run_text};
 use outer_io::SureSink;
-use std::alloc::{AllocError, Global};
+use std::alloc::Global;
 use std::process::Abort;
 use std::sync::Wait;
 use std::test::Fail;
@@ -16,11 +15,11 @@ use std::thread::Threads;
 use text_tokens::Refusal;
 
 /// The document of each row of `run` leaves the row's text.
-fn check_rows_by_tickets<R: Abort + Threads + Wait + Sync>(
+fn check_rows_by_tickets<R: Threads + Wait + Sync>(
     rt: &R,
     alloc: Global,
     rows: &[Row],
-) -> Result<(), AllocError> {
+) -> Result<(), Fail> {
     for (word, pieces, status, entries, texts) in rows {
         if *word == "run" {
             let document = joined(alloc, pieces)?;
@@ -41,11 +40,11 @@ fn check_rows_by_tickets<R: Abort + Threads + Wait + Sync>(
 }
 
 /// The document of each row of `run` is refused as the row says.
-fn check_faults_by_tickets<R: Abort + Threads + Wait + Sync>(
+fn check_faults_by_tickets<R: Threads + Wait + Sync>(
     rt: &R,
     alloc: Global,
     faults: &[Fault],
-) -> Result<(), AllocError> {
+) -> Result<(), Fail> {
     for (word, pieces, line, kind, text) in faults {
         if *word == "run" {
             let document = joined(alloc, pieces)?;
@@ -70,63 +69,62 @@ fn check_faults_by_tickets<R: Abort + Threads + Wait + Sync>(
 
 #[test]
 fn lists_are_run_by_tickets(rt: HostRuntime) -> Result<(), Fail> {
-    check_rows_by_tickets(&rt, rt.alloc(), &RUNS)?;
-    Ok(())
+    check_rows_by_tickets(&rt, rt.alloc(), &RUNS)
 }
 
 #[test]
 fn whole_programs_are_run_by_tickets(rt: HostRuntime) -> Result<(), Fail> {
-    check_rows_by_tickets(&rt, rt.alloc(), &WHOLE_PROGRAMS)?;
-    Ok(())
+    check_rows_by_tickets(&rt, rt.alloc(), &WHOLE_PROGRAMS)
 }
 
 #[test]
 fn walls_stay_under_tickets(rt: HostRuntime) -> Result<(), Fail> {
-    check_rows_by_tickets(&rt, rt.alloc(), &WALLED)?;
-    Ok(())
+    check_rows_by_tickets(&rt, rt.alloc(), &WALLED)
 }
 
 #[test]
 fn tickets_refuse_what_run_refuses(rt: HostRuntime) -> Result<(), Fail> {
     check_faults_by_tickets(&rt, rt.alloc(), &FAULTS)?;
-    check_faults_by_tickets(&rt, rt.alloc(), &REFUSED)?;
-    Ok(())
-}
-
-/// The journal has old values in version 3 alone.
-#[test]
-fn tickets_keep_the_version_of_the_document(rt: HostRuntime) -> Result<(), Fail> {
-    for run in &VERSIONED {
-        if run.0 == "run" {
-            for version in ["amoebot 1", "amoebot 2", "amoebot 3"] {
-                check_by(&rt, rt.alloc(), "tickets", version, run)?;
-            }
-        }
-    }
-    Ok(())
+    check_faults_by_tickets(&rt, rt.alloc(), &REFUSED)
 }
 
 /// A document for each of the words below.
 const SCHEDULED: &[&str] = &[OUT, ONE, TWO_TURNS, "schedule\nend\n"];
 
-/// Whether turns come with a word, and whether tickets do.
-fn comes_with<R: Threads + Wait + Sync>(
+/// Each word, whether turns come with it, and whether tickets do.
+static COMING: [(&str, bool, bool); 4] = [
+    ("run", true, false),
+    ("tickets", false, true),
+    ("interleave", false, false),
+    ("check", false, false),
+];
+
+/// Turns came or not, and tickets came or not.
+fn came(rt: &impl Abort, ended: &Ended, turns: bool, tickets: bool) {
+    assert_eq!(rt; ended.turns.is_some(), turns);
+    assert_eq!(rt; ended.tickets.is_some(), tickets);
+}
+
+/// By the word the document leaves turns or none, and tickets or none.
+fn check_coming<R: Abort + Threads + Wait + Sync>(
     rt: &R,
     alloc: Global,
-    word: &str,
-) -> Result<(bool, bool), Fail> {
-    let document = joined(alloc, SCHEDULED)?;
+    document: &str,
+    coming: &(&str, bool, bool),
+) -> Result<(), Fail> {
+    let (word, turns, tickets) = coming;
     let words = words(alloc, &[word])?;
     let mut out = SureSink::new(alloc, 4096)?;
     let ended = run_text(rt, alloc, words.as_slice(), document.as_bytes(), &mut out);
-    Ok((ended.turns.is_some(), ended.tickets.is_some()))
+    came(rt, &ended, *turns, *tickets);
+    Ok(())
 }
 
 #[test]
 fn tickets_come_with_tickets_alone(rt: HostRuntime) -> Result<(), Fail> {
-    assert_eq!(rt; comes_with(&rt, rt.alloc(), "run")?, (true, false));
-    assert_eq!(rt; comes_with(&rt, rt.alloc(), "tickets")?, (false, true));
-    assert_eq!(rt; comes_with(&rt, rt.alloc(), "interleave")?, (false, false));
-    assert_eq!(rt; comes_with(&rt, rt.alloc(), "check")?, (false, false));
+    let document = joined(rt.alloc(), SCHEDULED)?;
+    for coming in &COMING {
+        check_coming(&rt, rt.alloc(), document.as_str(), coming)?;
+    }
     Ok(())
 }

@@ -1,12 +1,11 @@
 //! Documents of version 2: worlds with walls, what an amoebot does beside one, and texts with walls that are refused.
 
+use crate::calls::{check, check_faults, check_rows, joined};
 use crate::pieces::{
     EXPANDED, FAR_JOURNAL, Fault, NO_ENTRY, ONE, ONE_EACH, ONE_TURN, OUT, Row, TWO_EACH,
 };
-use crate::tests::{check, check_faults, check_rows, joined};
 use amoebot_run::Status::{Differs, Done};
-use std::alloc::{AllocError, Global};
-use std::process::Abort;
+use std::alloc::Global;
 use std::sync::Wait;
 use std::test::Fail;
 use std::thread::Threads;
@@ -470,11 +469,11 @@ pub static REFUSED: [Fault; 6] = [
 ];
 
 /// Each turn leaves the text that its row says.
-fn check_turns<R: Abort + Threads + Wait + Sync>(
+fn check_turns<R: Threads + Wait + Sync>(
     rt: &R,
     alloc: Global,
     turns: &[Turn],
-) -> Result<(), AllocError> {
+) -> Result<(), Fail> {
     for (program, walls, bots, entries, entry, moved, mark) in turns {
         let document = joined(
             alloc,
@@ -516,18 +515,15 @@ fn check_turns<R: Abort + Threads + Wait + Sync>(
 
 #[test]
 fn an_amoebot_enters_no_wall_and_a_wall_is_nobody(rt: HostRuntime) -> Result<(), Fail> {
-    check_turns(&rt, rt.alloc(), &TURNS)?;
-    Ok(())
+    check_turns(&rt, rt.alloc(), &TURNS)
 }
 
 #[test]
 fn walls_stay_under_each_command(rt: HostRuntime) -> Result<(), Fail> {
-    check_rows(&rt, rt.alloc(), &COMMANDS)?;
-    Ok(())
+    check_rows(&rt, rt.alloc(), &COMMANDS)
 }
 
 #[test]
 fn walls_that_may_not_stand_there_are_refused(rt: HostRuntime) -> Result<(), Fail> {
-    check_faults(&rt, rt.alloc(), &REFUSED)?;
-    Ok(())
+    check_faults(&rt, rt.alloc(), &REFUSED)
 }

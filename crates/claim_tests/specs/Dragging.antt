@@ -1,5 +1,5 @@
 -- What a program of two actions decides: an expanded amoebot drags a contracted neighbour behind it by a Pull, and notes that it is
--- expanded where there is none. Support of tests, here and in claim_core_tests, and no part of the model.
+-- expanded where there is none. Support of tests, and no part of the model.
 use Rattle.std.specs.Prelude.{ℕ, pos, Bool, true, false, if◌then◌else◌}
 use Rattle.std.specs.declared.option.Option.TheVariants.{None}
 use Rattle.std.specs.declared.result.Result.{Result}

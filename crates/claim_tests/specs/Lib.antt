@@ -1,3 +1,2 @@
 pub mod Dragging
 pub mod DraggingLaws
-pub mod Walks

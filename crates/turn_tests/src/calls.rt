@@ -8,7 +8,6 @@ use activation::Gate;
 use amoebot_state::{Decider, Found, Verdict};
 use claim_core::{Lists, Mark, Marks};
 use claim_rule::{Field, Seat};
-use claim_tests::{field_of, seat_of};
 use small_worlds::{Idler, Marker, lists_of, standing, world_in};
 use std::alloc::Global;
 use std::process::Abort;
@@ -17,6 +16,7 @@ use std::sync::atomic::{AtomicU64, Ordering};
 use std::test::Fail;
 use std::thread;
 use std::thread::Threads;
+use zone_tests::{field_of, seat_of};
 
 /// Is idle. It counts its decisions, and those that did not come right behind a call of the gate.
 #[derive(Drop)]

@@ -12,12 +12,12 @@ use crate::meeting::have_marks;
 use amoebot_state::{Decider, World};
 use claim_core::{Journal, Lists, Mark, Marks};
 use claim_rule::{Field, Seat, Seats};
-use claim_tests::field_of;
 use small_worlds::{Marker, lists_of, standing, world_in};
 use std::alloc::Global;
 use std::process::Abort;
 use std::sync::Wait;
 use std::test::Fail;
+use zone_tests::field_of;
 
 /// Makes all turns of the seat, with the marks that are expected. In each the gate is called.
 fn turns_of<R: Wait + Abort, D: Decider>(

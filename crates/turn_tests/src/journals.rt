@@ -5,11 +5,11 @@ ghost use Rattle.claim_rule.specs.Settling.{IsToTake};
 use amoebot_state::Change;
 use claim_core::Lists;
 use claim_rule::{Claimed, Field, Seat, Settled, Taken, store, take};
-use claim_tests::{decided, field_of, seat_of};
 use node_claims::release_settled;
 use small_worlds::{Marker, lists_of, standing, world_in};
 use std::process::Abort;
 use std::test::Fail;
+use zone_tests::{decided, field_of, seat_of};
 
 /// The journal is found free, and taken.
 fn taken_by(

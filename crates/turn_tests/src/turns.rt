@@ -10,7 +10,6 @@ use activation::Gate;
 use amoebot_state::{CellName, Change, Decider, Failure, World};
 use claim_core::{Journal, Lists, Mark, Marks};
 use claim_rule::{Claimed, Field, Seat, Seats};
-use claim_tests::{decided, field_of, seat_of};
 use commit_journal::commit;
 use node_claims::release_settled;
 use small_worlds::{AtEdge, Marker, lists_of, standing, world_in};
@@ -18,6 +17,7 @@ use std::alloc::Global;
 use std::process::Abort;
 use std::sync::Wait;
 use std::test::Fail;
+use zone_tests::{decided, field_of, seat_of};
 
 /// Makes the seat's next turn, which has this mark, as the machine has.
 fn marked<R: Wait + Abort, D: Decider, G: Gate>(

@@ -1,5 +1,0 @@
-use Rattle.claim_tests.specs.Walks.{IsWalker}
-use Rattle.claim_tests.proofs.walks.finished.Given as goal
-
-abbrev pub invariant-loop-cell : goal.invariant-loop-cell
-invariant-loop-cell l = IsWalker l.field l.walker

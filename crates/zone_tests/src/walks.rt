@@ -1,0 +1,281 @@
+ghost use Rattle.std.specs.Prelude.{◌≡◌, ◌<◌, ◌≤◌, length, IfOk, IsSome};
+ghost use Rattle.std.specs.List.{All};
+ghost use Rattle.amoebot_state.specs.Configs.{bot_at};
+ghost use Rattle.claim_core.specs.declared.state.Phase.TheVariants.{Refusing};
+ghost use Rattle.claim_rule.specs.Tokens.{IsOf, doing};
+ghost use Rattle.zone_tests.specs.Walks.{IsWalker};
+
+use crate::field_fixtures::{begun, whole};
+use crate::fields::{field_of, seat_of};
+use amoebot_state::{CellName, World};
+use claim_core::{Core, Lists, Look, Mark, Phase};
+use claim_rule::{Field, Freeing, Held, Stopped, Tag, end, free_last, look, refuse, win};
+use node_claims::release;
+use small_worlds::{Idler, lists_of, standing, world_in};
+use std::alloc::Global;
+use std::process::Abort;
+use std::test::Fail;
+
+/// How far a caller has come in its turn: it holds cells of its zone, or was refused this one, which had this tag.
+type Walker = Result<Held<Idler>, (Stopped<Idler>, CellName, Tag)>;
+
+/// Whether the caller has a cell to try.
+fn claims(field: &Field<'_, Idler>, walker: &Walker) -> bool
+    requires { IsWalker field.now walker.now }
+{
+    match walker {
+        Ok(held) => held.next(field).is_some(),
+        Err(_) => false,
+    }
+}
+
+/// One try to claim the next cell, if there is one.
+fn tried(field: &Field<'_, Idler>, walker: Walker) -> Walker
+    requires { IsWalker field.now walker }
+    ensures { IsWalker field.now result }
+{
+    match walker {
+        Err(stopped) => Err(stopped),
+        Ok(held) => match held.next(field) {
+            None => Ok(held),
+            Some(cell) => match win(held, field, cell) {
+                Ok(more) => Ok(more),
+                Err((stopped, tag)) => Err((stopped, cell, tag)),
+            },
+        },
+    }
+}
+
+/// The rest of the turn, of at most four cells, and its mark.
+fn finished(field: &Field<'_, Idler>, mut walker: Walker) -> Result<Mark, Fail>
+    requires { IsWalker field.now walker }
+{
+    for _cell in 0..4 {
+        walker = tried(field, walker);
+    }
+    match walker {
+        Ok(held) => looked(field, held),
+        Err((stopped, cell, tag)) => Ok(refused(field, stopped, cell, tag)),
+    }
+}
+
+/// The mark of a turn that holds its whole zone, which is freed.
+fn looked(field: &Field<'_, Idler>, held: Held<Idler>) -> Result<Mark, Fail>
+    requires { IsOf field.now held }
+{
+    let mut claimed = whole(field, held)?;
+    let seen = look(&mut claimed, field);
+    release(claimed, field);
+    Ok(Mark::Idle {
+        place: seen.place(),
+    })
+}
+
+/// The mark of a turn that was refused a cell, and that frees what it won.
+fn refused(field: &Field<'_, Idler>, stopped: Stopped<Idler>, cell: CellName, tag: Tag) -> Mark
+    requires of { IsOf field.now stopped }
+    requires phase { (doing stopped).phase ≡ Refusing cell tag }
+{
+    let (freeing, refused) = refuse(stopped, field, cell, tag);
+    free(field, freeing);
+    Mark::Busy {
+        cell: refused.cell(),
+        by_caller: refused.by_caller(),
+        by_turn: refused.by_turn(),
+        by_bot: refused.by_bot(),
+        place: refused.place(),
+    }
+}
+
+/// Frees all cells that are held.
+fn free(field: &Field<'_, Idler>, mut freeing: Freeing<Idler>)
+    requires { IsOf field.now freeing }
+{
+    while freeing.count() > 0 {
+        freeing = free_last(freeing, field);
+    }
+    end(freeing);
+}
+
+/// A caller of the core stands where the walker does: it holds as many cells, and has a cell to try, or holds its whole zone, or found
+/// the same tag at the same cell.
+fn stands(
+    rt: &impl Abort,
+    field: &Field<'_, Idler>,
+    core: &Core<'_, Idler>,
+    caller: u8,
+    walker: &Walker,
+)
+    requires walker { IsWalker field.now walker.now }
+    requires callers { length core.now.state.callers ≡ 2 }
+    requires caller { caller < 2 }
+{
+    let phase = core.phase(caller);
+    match walker {
+        Ok(held) => {
+            assert_eq!(rt; core.held(caller).len(), usize::from(held.count()));
+            assert!(rt; is_at(phase, held.next(field)), "caller {caller}");
+        }
+        Err((_, cell, tag)) => assert!(rt; was_refused(phase, *cell, tag), "caller {caller}"),
+    }
+}
+
+/// Whether the caller is to try a cell, or, where there is none, holds its whole zone.
+fn is_at(phase: &Phase, next: Option<CellName>) -> bool {
+    match phase {
+        Phase::Claim => next.is_some(),
+        Phase::Looking(look) => *look == Look::Idle && next.is_none(),
+        _ => false,
+    }
+}
+
+/// Whether the caller found this tag at this cell.
+fn was_refused(phase: &Phase, cell: CellName, tag: &Tag) -> bool {
+    match phase {
+        Phase::Refusing(at, number) => *at == cell && *number == number_of(tag),
+        _ => false,
+    }
+}
+
+/// The number that the core has for a tag.
+fn number_of(tag: &Tag) -> u64 {
+    let turns = u64::from(tag.turn()) + 65_536 * u64::from(tag.caller());
+    1 + u64::from(tag.bot()) + 4096 * turns
+}
+
+/// Makes so many steps of a caller.
+fn steps(core: &mut Core<'_, Idler>, caller: u8, number: u32)
+    requires callers { length core.old.state.callers ≡ 2 }
+    requires caller { caller < 2 }
+    ensures { length core.new.state.callers ≡ 2 }
+{
+    for _step in 0..number {
+        core.step(caller);
+    }
+}
+
+/// Two callers beside each other make the claim steps of this word, of which there are eight at most, the lowest bit first: 0 for
+/// caller 0, 1 for caller 1. The core makes the same steps.
+fn walked(
+    field: &Field<'_, Idler>,
+    core: &mut Core<'_, Idler>,
+    mut walkers: (Walker, Walker),
+    count: u32,
+    word: u32,
+) -> (Walker, Walker)
+    requires walkers { IsWalker field.now walkers.0 × IsWalker field.now walkers.1 }
+    requires callers { length core.old.state.callers ≡ 2 }
+    requires few { count ≤ 8 }
+    ensures walkers { IsWalker field.now result.0 × IsWalker field.now result.1 }
+    ensures callers { length core.new.state.callers ≡ 2 }
+{
+    for step in 0..count {
+        walkers = walked_one(field, core, walkers, word >> step & 1);
+    }
+    walkers
+}
+
+/// One claim step of caller 0, or of caller 1.
+fn walked_one(
+    field: &Field<'_, Idler>,
+    core: &mut Core<'_, Idler>,
+    walkers: (Walker, Walker),
+    caller: u32,
+) -> (Walker, Walker)
+    requires walkers { IsWalker field.now walkers.0 × IsWalker field.now walkers.1 }
+    requires callers { length core.old.state.callers ≡ 2 }
+    ensures walkers { IsWalker field.now result.0 × IsWalker field.now result.1 }
+    ensures callers { length core.new.state.callers ≡ 2 }
+{
+    let (zero, one) = walkers;
+    if caller == 0 {
+        steps(core, 0, u32::from(claims(field, &zero)));
+        (tried(field, zero), one)
+    } else {
+        steps(core, 1, u32::from(claims(field, &one)));
+        (zero, tried(field, one))
+    }
+}
+
+/// The core has these marks, of the one turn of caller 0 and of caller 1, once both have ended.
+fn has_marks(rt: &impl Abort, core: Core<'_, Idler>, zero: Mark, one: Mark) -> Result<(), Fail> {
+    if !core.ended() {
+        return Err(Fail::from("a turn is left"));
+    }
+    let marks = core.report().turns;
+    if marks.callers() != 2 || marks.count(0) != 1 || marks.count(1) != 1 {
+        return Err(Fail::from("one mark for each"));
+    }
+    assert_eq!(rt; marks.mark(0, 0), zero);
+    assert_eq!(rt; marks.mark(1, 0), one);
+    Ok(())
+}
+
+/// The two callers make the claim steps of this word. Then caller 0 finishes its turn, and then caller 1. The same steps of the core
+/// leave the same marks.
+fn agrees(
+    rt: &impl Abort,
+    field: &Field<'_, Idler>,
+    mut core: Core<'_, Idler>,
+    walkers: (Walker, Walker),
+    count: u32,
+    word: u32,
+) -> Result<(), Fail>
+    requires walkers { IsWalker field.now walkers.0 × IsWalker field.now walkers.1 }
+    requires callers { length core.state.callers ≡ 2 }
+    requires few { count ≤ 8 }
+{
+    let (zero, one) = walked(field, &mut core, walkers, count, word);
+    stands(rt, field, &core, 0, &zero);
+    stands(rt, field, &core, 1, &one);
+    let zero = finished(field, zero)?;
+    let one = finished(field, one)?;
+    steps(&mut core, 0, 12);
+    steps(&mut core, 1, 12);
+    has_marks(rt, core, zero, one)
+}
+
+/// The world of two amoebots beside each other and of no further node, and one turn for each of them. The two cells of nodes and the
+/// two of bodies are the zone of each.
+fn two_beside(alloc: Global) -> Result<(World, Lists), Fail>
+    ensures callers { IfOk result (λ made. length made.1.ids ≡ 2) }
+    ensures bots { IfOk result (λ made. All (All (λ id. IsSome (bot_at made.0 id))) made.1.ids) }
+{
+    let world = world_in(alloc, 2, 1, &[standing(0, 0, 0), standing(1, 0, 0)])?;
+    let lists = lists_of(alloc, 1, &world, &[&[0], &[1]])?;
+    Ok((world, lists))
+}
+
+/// A core over that world.
+fn core_of(alloc: Global) -> Result<Core<'static, Idler>, Fail>
+    ensures { IfOk result (λ core. length core.state.callers ≡ 2) }
+{
+    let (world, lists) = two_beside(alloc)?;
+    match Core::make(alloc, &Idler, world, &lists) {
+        Ok(core) => Ok(core),
+        Err(_) => Err(Fail::from("no core")),
+    }
+}
+
+/// The same over a field and a core of their own.
+fn agree(rt: &impl Abort, alloc: Global, count: u32, word: u32) -> Result<(), Fail>
+    requires { count ≤ 8 }
+{
+    let core = core_of(alloc)?;
+    let (world, lists) = two_beside(alloc)?;
+    let (field, mut seats) = field_of(alloc, &Idler, world, &lists)?;
+    let zero = begun(&field, &lists, seat_of(&field, &mut seats, 0)?)?;
+    let one = begun(&field, &lists, seat_of(&field, &mut seats, 1)?)?;
+    agrees(rt, &field, core, (Ok(zero), Ok(one)), count, word)
+}
+
+/// Every interleaving of the claim steps of two zones of the same four cells, and every beginning of one.
+#[test]
+fn each_interleaving_of_claims_is_that_of_the_core(rt: HostRuntime) -> Result<(), Fail> {
+    for count in 0u32..9 {
+        for word in 0..1u32 << count {
+            agree(&rt, rt.alloc(), count, word)?;
+        }
+    }
+    Ok(())
+}
