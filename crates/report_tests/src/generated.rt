@@ -227,16 +227,16 @@ fn write_one_text<R: Abort + Threads + Wait + Sync>(
     Ok(entries)
 }
 
-/// A hundred documents of one list. On the whole there is an entry for each of them at least.
+/// Two hundred documents of one list. On the whole there is an entry for each of them at least.
 #[test]
 fn each_word_writes_one_text_of_one_list(rt: HostRuntime) -> Result<(), Fail> {
     let mut entries: usize = 0;
-    for seed in 1..101 {
+    for seed in 1..201 {
         let document = generated(rt.alloc(), seed, 1)?;
         let more = write_one_text(&rt, rt.alloc(), document.as_str())?;
         entries = entries.saturating_add(more);
     }
-    assert!(rt; entries >= 100, "{entries}");
+    assert!(rt; entries >= 200, "{entries}");
     Ok(())
 }
 
@@ -251,19 +251,19 @@ fn check_seed<R: Abort + Threads + Wait + Sync>(
     check_reports(rt, alloc, document.as_str(), seed)
 }
 
-/// Fifty-six documents of two to nine lists.
+/// A hundred and twelve documents of two to nine lists.
 #[test]
 fn each_word_leaves_right_reports_of_some_lists(rt: HostRuntime) -> Result<(), Fail> {
-    for seed in 101..157u64 {
+    for seed in 1..113u64 {
         check_seed(&rt, rt.alloc(), seed, 2 + (seed % 8) as u32)?;
     }
     Ok(())
 }
 
-/// Forty-four documents of ten to sixteen lists.
+/// Eighty-eight documents of ten to sixteen lists.
 #[test]
 fn each_word_leaves_right_reports_of_many_lists(rt: HostRuntime) -> Result<(), Fail> {
-    for seed in 157..201u64 {
+    for seed in 113..201u64 {
         check_seed(&rt, rt.alloc(), seed, 10 + (seed % 7) as u32)?;
     }
     Ok(())
