@@ -117,14 +117,16 @@ impl OwnList {
     {
         let head = self.heads[self.taken];
         self.taken += 1;
-        Entry {
+        let mut entry = Entry {
             caller: head.caller,
             turn: head.turn,
             bot: head.bot,
             action: head.action,
             moved: head.moved,
-            patch: patch_of(&self.triples[head.start..head.end]),
-        }
+            patch: Patch::new(),
+        };
+        fill(&mut entry.patch, &self.triples[head.start..head.end]);
+        entry
     }
 }
 
@@ -153,16 +155,15 @@ fn push_all(triples: &mut Vec<(CellName, Cell, Cell)>, cells: &[(CellName, Cell,
     }
 }
 
-/// The patch of these cells.
+/// Gives a patch that has no cell these ones.
 #[inline(always)]
-fn patch_of(cells: &[(CellName, Cell, Cell)]) -> Patch
+fn fill(patch: &mut Patch, cells: &[(CellName, Cell, Cell)])
+    requires none { patch.old ≡ [] }
     requires few { length cells.now ≤ most_pairs }
     requires alike { triples_alike cells.now }
-    ensures { result ≡ cells.now }
+    ensures { patch.new ≡ cells.now }
 {
-    let mut patch = Patch::new();
     for (name, before, after) in cells {
         patch.push(*name, *before, *after);
     }
-    patch
 }

@@ -8,8 +8,8 @@ use Rattle.ticket_commit.proofs.Unpacking.{alike_range, first_entry, is_head, wi
 use Rattle.ticket_commit.proofs.own.OwnList.take.Goals as goal
 
 -- src/own.rt
-pub patch_of-requires-clause-alike : goal.patch_of-requires-clause-alike
-patch_of-requires-clause-alike c =
+pub fill-requires-clause-alike : goal.fill-requires-clause-alike
+fill-requires-clause-alike c =
     let head = c.index-head.result.now in
     alike_range c.deref.result.now head.start head.end (subst triples_alike (sym c.deref.ensures.value) c.self.invariant.alike)
 
@@ -18,7 +18,7 @@ returns-clause-first c =
     let o = c.self.inside in
     let head = c.index-head.result.now in
     let some = subst (λ (own : OwnEntries). 0 < length own.entries) (sym c.self.view_is) c.requires in
-    let cells = c.patch_of.ensures ∙ ap (λ (ts : Triples). slice_range ts head.start head.end) c.deref.ensures.value in (
+    let cells = c.fill.ensures ∙ ap (λ (ts : Triples). slice_range ts head.start head.end) c.deref.ensures.value in (
       head.place,
       ap (λ (own : OwnEntries). slice_get own.entries 0) (sym c.self.view_is)
           ∙ first_entry o.heads.items o.triples.items o.taken head (is_head o.heads.items o.triples.items o.taken some) c.index-head.ensures
