@@ -151,8 +151,8 @@ pub fn same_value_is_equality()
     ensures { SameValueIsEquality }
 {}
 
-/// The difference of two valid configurations with the same area, the same greatest values and the same ids leads from
-/// the old one to the new one; each cell that it lists differs, and its old values are those of the old one.
+/// The difference of two valid configurations with the same area, walls, greatest values and ids leads from the old one to
+/// the new one; each cell that it lists differs, and its old values are those of the old one.
 pub fn diff_leads()
     ensures { DiffLeads }
 {}

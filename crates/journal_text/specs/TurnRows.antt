@@ -1,4 +1,4 @@
--- Some texts of turns in version 1, which are read, or have a first fault.
+-- Some texts of turns, which are read, or have a first fault. They are in version 1, except one.
 use Rattle.std.specs.Prelude.{ℕ, List, ◌++◌, Ok, Err, codes}
 use Rattle.text_tokens.specs.declared.refusal.RefusalKind.{RefusalKind}
 use Rattle.text_tokens.specs.declared.refusal.RefusalKind.TheVariants.{BadByte, WordTooLong, Unexpected, Truncated, BadRange, Trailing}
@@ -36,6 +36,9 @@ pub record TurnsAreRead : Type 0 where
   pub other_word : FailsAsTurns (codes "journal end") 1 Unexpected
   pub other_mark : FailsInTurns (codes "\ndoing 0 end") 3 Unexpected
   pub other_failure : FailsInTurns (codes "failed\nport 0 end") 3 Unexpected
+  -- only a version with walls has this failure
+  pub blocked_before_walls : FailsInTurns (codes "failed\nblocked 0 end") 3 Unexpected
+  pub blocked_with_walls : Says (IsTurns 2) (codes "turns turn 0 0 failed blocked 0 end") (Ok tt)
   pub no_failure : FailsInTurns (codes "failed\n0 end") 3 Unexpected
   pub no_place : FailsInTurns (codes "done\nend") 3 Unexpected
   pub two_places : FailsInTurns (codes "done 0\n0 end") 3 Unexpected

@@ -8,8 +8,8 @@ pub fn one_arc_test_is_one_arc()
     ensures { OneArcTestIsOneArc }
 {}
 
-/// What an activation reaches from a valid configuration is valid, has the same ids, the same area and the same greatest values,
-/// and differs in cells of the zone alone.
+/// What an activation reaches from a valid configuration is valid, has the same ids, area, walls and greatest values, and
+/// differs in cells of the zone alone.
 pub fn reached_keeps_rest()
     ensures { ReachedKeepsRest }
 {}

@@ -73,7 +73,7 @@ impl Site {
         }
     }
 
-    /// Whether the node behind a port is in the area and empty. NoPort, where it is none of the amoebot's.
+    /// Whether the node behind a port is in the area, no wall, and empty. NoPort, where it is none of the amoebot's.
     pub fn is_free(&self, port: Port) -> Result<bool, Failure>
         ensures { result ≡ is_free self.now.reached (own_id self.now) port }
     {
@@ -121,7 +121,7 @@ impl Site {
     }
 
     /// The amoebot's head enters the node behind a port, and its tail stays. NotContracted, it is expanded; NoPort; Edge, the
-    /// node is outside the area; Occupied.
+    /// node is outside the area; Blocked, it is a wall; Occupied.
     pub fn expand(&mut self, port: Port) -> Result<(), Failure>
         ensures value { result ≡ done (expand self.old.reached (own_id self.old) port) }
         ensures after { self.new ≡ copy_after self.old (expand self.old.reached (own_id self.old) port) }
