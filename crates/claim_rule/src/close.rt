@@ -118,7 +118,7 @@ fn drop_slots(mut closed: Closed<Slot, Global>, count: usize)
 }
 
 /// Makes the world the last one of a run of these entries.
-pub fn apply_entries<D: Decider>(decider: &D, world: &mut World, entries: &[Entry])
+fn apply_entries<D: Decider>(decider: &D, world: &mut World, entries: &[Entry])
     requires { (last : Config) × Run (D.verdict decider.now) world.old entries.now last }
     ensures { Run (D.verdict decider.now) world.old entries.now world.new }
 {

@@ -27,7 +27,6 @@ mod views;
 mod words;
 
 pub use claimed::{Claimed, Seen, look, seal, unseal};
-pub use close::apply_entries;
 pub use drawing::draw;
 pub use field::Field;
 pub use freeing::{Freeing, end, free_last};

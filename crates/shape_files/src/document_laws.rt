@@ -66,7 +66,7 @@ pub fn runs_are_replayed()
 /// That is the header, the canonical program, and the shape, the journal, the last shape and the turns, as far as each is there.
 /// It is so in the forms that need no lists: Check, Replay and Measure.
 /// Of the turns it says only that their section is read, since a document does not keep them.
-/// The texts of two small documents are written out.
+/// The texts of three small documents are written out.
 pub fn documents_read_back()
     ensures law { DocumentsReadBack }
     ensures small { WholeTextRows }
