@@ -2,7 +2,7 @@
 
 use crate::calls::joined;
 use crate::commands::{COMPARED_AND_CHECKED, INTERLEAVINGS, MEASURED, SHOWN};
-use crate::journals::{COUNTED, DIFFERENT, ELECTIONS, RENEWED};
+use crate::journals::{COUNTED, DIFFERENT, ELECTIONS, RENEWED, REWOUND, TO_START};
 use crate::pieces::{Row, WORKED};
 use crate::tests::{call, has_nothing, says};
 use amoebot_run::{Ended, Status};
@@ -21,10 +21,10 @@ fn calls_for(bytes: usize) -> u32 {
     bytes.div_ceil(10).min(1000) as u32
 }
 
-/// A document with the word that reads it, the status and the text.
+/// A document with the words that read it, the status and the text.
 #[derive(Clone, Copy)]
 struct Case<'a> {
-    word: &'a str,
+    words: &'a [&'a str],
     document: &'a str,
     status: Status,
     text: &'a str,
@@ -41,7 +41,7 @@ fn check_read<R: Abort + Threads + Wait + Sync>(
 ) -> Result<(), Fail> {
     let mut input = MemSource::new(alloc, case.document.as_bytes(), PIECE, &[failing])?;
     let mut out = SureSink::new(alloc, 4096)?;
-    let ended = call(rt, alloc, &[case.word], &mut input, &mut out)?;
+    let ended = call(rt, alloc, case.words, &mut input, &mut out)?;
     says(rt, &ended, &out, status, text);
     Ok(())
 }
@@ -71,7 +71,7 @@ fn check_write<R: Abort + Threads + Wait + Sync>(
 ) -> Result<(), Fail> {
     let mut input = SureSource::new(alloc, case.document.as_bytes())?;
     let mut out = MemSink::new(alloc, room, PIECE, failing)?;
-    let ended = call(rt, alloc, &[case.word], &mut input, &mut out)?;
+    let ended = call(rt, alloc, case.words, &mut input, &mut out)?;
     took(rt, &ended, &out, status, taken);
     Ok(())
 }
@@ -119,22 +119,32 @@ fn check_each_room<R: Abort + Threads + Wait + Sync>(
     check_write(rt, alloc, case, room, &[], case.status, text)
 }
 
-/// Each read and each write of a row fails in turn.
-fn check_each_call<R: Abort + Threads + Wait + Sync>(
+/// Each read and each write of a row fails in turn, by these words.
+fn check_each_call_by<R: Abort + Threads + Wait + Sync>(
     rt: &R,
     alloc: Global,
+    words: &[&str],
     row: &Row,
 ) -> Result<(), Fail> {
     let document = joined(alloc, row.1)?;
     let text = joined(alloc, row.4)?;
     let case = Case {
-        word: row.0,
+        words,
         document: document.as_str(),
         status: row.2,
         text: text.as_str(),
     };
     check_each_read(rt, alloc, &case)?;
     check_each_write(rt, alloc, &case)
+}
+
+/// The same by the row's own word.
+fn check_each_call<R: Abort + Threads + Wait + Sync>(
+    rt: &R,
+    alloc: Global,
+    row: &Row,
+) -> Result<(), Fail> {
+    check_each_call_by(rt, alloc, &[row.0], row)
 }
 
 #[test]
@@ -144,11 +154,7 @@ fn each_read_and_each_write_that_fails_gives_its_status(rt: HostRuntime) -> Resu
 
 #[test]
 fn each_failing_call_of_tickets_gives_its_status(rt: HostRuntime) -> Result<(), Fail> {
-    check_each_call(
-        &rt,
-        rt.alloc(),
-        &("tickets", WORKED.1, WORKED.2, WORKED.3, WORKED.4),
-    )
+    check_each_call_by(&rt, rt.alloc(), &["tickets"], &WORKED)
 }
 
 #[test]
@@ -156,7 +162,7 @@ fn a_sink_gets_what_it_has_room_for(rt: HostRuntime) -> Result<(), Fail> {
     let document = joined(rt.alloc(), WORKED.1)?;
     let text = joined(rt.alloc(), WORKED.4)?;
     let case = Case {
-        word: WORKED.0,
+        words: &[WORKED.0],
         document: document.as_str(),
         status: WORKED.2,
         text: text.as_str(),
@@ -188,6 +194,12 @@ fn each_failing_call_of_a_renewal_gives_its_status(rt: HostRuntime) -> Result<()
 }
 
 #[test]
+fn each_failing_call_of_a_way_back_gives_its_status(rt: HostRuntime) -> Result<(), Fail> {
+    check_each_call_by(&rt, rt.alloc(), TO_START, &REWOUND[0])?;
+    check_each_call_by(&rt, rt.alloc(), TO_START, &REWOUND[1])
+}
+
+#[test]
 fn each_failing_call_of_a_count_of_rounds_gives_its_status(rt: HostRuntime) -> Result<(), Fail> {
     check_each_call(&rt, rt.alloc(), &COUNTED[0])?;
     check_each_call(&rt, rt.alloc(), &COUNTED[1])
@@ -203,7 +215,7 @@ fn each_failing_call_of_an_election_gives_its_status(rt: HostRuntime) -> Result<
 #[test]
 fn each_failing_call_of_a_check_gives_its_status(rt: HostRuntime) -> Result<(), Fail> {
     let case = Case {
-        word: "check",
+        words: &["check"],
         document: SHOWN[0].1,
         status: Status::Done,
         text: SHOWN[0].1,
@@ -217,7 +229,7 @@ fn each_failing_call_of_a_check_gives_its_status(rt: HostRuntime) -> Result<(), 
 fn the_third_read_fails_and_then_the_second_write(rt: HostRuntime) -> Result<(), Fail> {
     let document = joined(rt.alloc(), WORKED.1)?;
     let case = Case {
-        word: WORKED.0,
+        words: &[WORKED.0],
         document: document.as_str(),
         status: WORKED.2,
         text: "",

@@ -6,7 +6,7 @@
 
 use crate::calls::{check, joined};
 use crate::commands::{COMPARED_AND_CHECKED, INTERLEAVINGS, MEASURED, SHOWN};
-use crate::journals::{COUNTED, ELECTIONS, RENEWED};
+use crate::journals::{COUNTED, ELECTIONS, RENEWED, REWOUND, TO_START};
 use crate::pieces::{Row, WORKED};
 use amoebot_run::Status;
 use std::alloc::{AllocError, Global};
@@ -140,21 +140,11 @@ fn is_whole(wholes: &[Whole], ends: u32) -> bool {
     wholes.iter().any(|whole| whole.0 == ends)
 }
 
-/// Whether a token begins or ends between the two, or one byte before.
-fn is_near_border(front: &[u8], rest: &[u8]) -> bool {
-    match (front, rest) {
-        ([.., before, last], [next, ..]) => {
-            is_blank(*before) != is_blank(*last) || is_blank(*last) != is_blank(*next)
-        }
-        _ => true,
-    }
-}
-
 /// The bytes are refused so.
 fn check_refused<R: Threads + Wait + Sync>(
     rt: &R,
     alloc: Global,
-    word: &str,
+    words: &[&str],
     bytes: &[u8],
     refusal: Refusal,
 ) -> Result<(), Fail> {
@@ -166,73 +156,81 @@ fn check_refused<R: Threads + Wait + Sync>(
     };
     let text = format!(in alloc; "refused {} {name}\n", refusal.line)?;
     let status = Status::Refused(refusal);
-    check(rt, alloc, &[word], bytes, status, None, text.as_str())
+    check(rt, alloc, words, bytes, status, None, text.as_str())
 }
 
 /// What the front is answered: the status, the entries of the report and the text.
 fn check_front<R: Threads + Wait + Sync>(
     rt: &R,
     alloc: Global,
-    word: &str,
+    words: &[&str],
     bytes: &[u8],
     front: &Front,
     wholes: &[Whole],
 ) -> Result<(), Fail> {
     if let Some(refusal) = front.fault(wholes) {
-        return check_refused(rt, alloc, word, bytes, refusal);
+        return check_refused(rt, alloc, words, bytes, refusal);
     }
     for (ends, status, entries, text) in wholes {
         if *ends == front.ends {
-            check(rt, alloc, &[word], bytes, *status, *entries, text)?;
+            check(rt, alloc, words, bytes, *status, *entries, text)?;
         }
     }
     Ok(())
 }
 
-/// Compares the answer to each proper front of the document, or to each that ends at most one byte behind the border of a token.
+/// Compares the answer to each proper front of the document.
 fn check_fronts<R: Threads + Wait + Sync>(
     rt: &R,
     alloc: Global,
-    word: &str,
+    words: &[&str],
     document: &str,
     wholes: &[Whole],
-    every: bool,
 ) -> Result<(), Fail> {
     let mut front = Front::new(alloc);
     let bytes = document.as_bytes();
     for (at, byte) in bytes.iter().enumerate() {
-        let (before, rest) = bytes.split_at(at);
         if is_blank(*byte) {
             front.end_token();
         }
-        if every || is_near_border(before, rest) {
-            check_front(rt, alloc, word, before, &front, wholes)?;
-        }
+        check_front(rt, alloc, words, &bytes[..at], &front, wholes)?;
         front.push(*byte)?;
     }
     Ok(())
 }
 
-/// Each front of the worked example. Without its last LF it is the same document.
-#[test]
-fn each_front_of_a_document_is_truncated_or_unexpected(rt: HostRuntime) -> Result<(), Fail> {
-    let document = joined(rt.alloc(), WORKED.1)?;
-    let text = joined(rt.alloc(), WORKED.4)?;
-    let wholes = [(3, WORKED.2, WORKED.3, text.as_str())];
-    check_fronts(&rt, rt.alloc(), "run", document.as_str(), &wholes, true)
-}
-
-/// Fronts of a document that is whole behind its last `end` alone.
-fn check_row<R: Threads + Wait + Sync>(
+/// Each front of a document that is whole behind its last `end` alone. The longest front lacks the last LF, and is whole.
+fn check_row_by<R: Threads + Wait + Sync>(
     rt: &R,
     alloc: Global,
+    words: &[&str],
     row: &Row,
     ends: u32,
 ) -> Result<(), Fail> {
     let document = joined(alloc, row.1)?;
     let text = joined(alloc, row.4)?;
     let wholes = [(ends, row.2, row.3, text.as_str())];
-    check_fronts(rt, alloc, row.0, document.as_str(), &wholes, false)
+    check_fronts(rt, alloc, words, document.as_str(), &wholes)
+}
+
+/// The same by the row's own word.
+fn check_row<R: Threads + Wait + Sync>(
+    rt: &R,
+    alloc: Global,
+    row: &Row,
+    ends: u32,
+) -> Result<(), Fail> {
+    check_row_by(rt, alloc, &[row.0], row, ends)
+}
+
+#[test]
+fn each_front_of_a_document_is_truncated_or_unexpected(rt: HostRuntime) -> Result<(), Fail> {
+    check_row(&rt, rt.alloc(), &WORKED, 3)
+}
+
+#[test]
+fn fronts_of_a_document_of_tickets_end_in_its_lists(rt: HostRuntime) -> Result<(), Fail> {
+    check_row_by(&rt, rt.alloc(), &["tickets"], &WORKED, 3)
 }
 
 #[test]
@@ -249,6 +247,12 @@ fn fronts_of_a_journal_end_before_its_last_shape(rt: HostRuntime) -> Result<(), 
 #[test]
 fn fronts_of_a_renewed_document_end_before_its_last_shape(rt: HostRuntime) -> Result<(), Fail> {
     check_row(&rt, rt.alloc(), &RENEWED[1], 4)
+}
+
+/// The document has old values in its journal.
+#[test]
+fn fronts_of_a_rewound_journal_end_before_its_last_shape(rt: HostRuntime) -> Result<(), Fail> {
+    check_row_by(&rt, rt.alloc(), TO_START, &REWOUND[0], 4)
 }
 
 #[test]
@@ -273,14 +277,7 @@ fn fronts_of_a_measured_document_may_end_behind_the_shape(rt: HostRuntime) -> Re
         (2, Status::Done, None, first),
         (4, Status::Done, None, last.as_str()),
     ];
-    check_fronts(
-        &rt,
-        rt.alloc(),
-        "measure",
-        document.as_str(),
-        &wholes,
-        false,
-    )
+    check_fronts(&rt, rt.alloc(), &["measure"], document.as_str(), &wholes)
 }
 
 /// A program with a shape and lists behind it: each of these sections may be the last.
@@ -295,7 +292,7 @@ fn fronts_of_a_checked_document_may_end_behind_each_section(rt: HostRuntime) -> 
         (3, Status::Done, None, text),
         (4, Status::Done, None, text),
     ];
-    check_fronts(&rt, rt.alloc(), "check", document.as_str(), &wholes, false)
+    check_fronts(&rt, rt.alloc(), &["check"], document.as_str(), &wholes)
 }
 
 /// The text of a shipped program.
@@ -303,5 +300,5 @@ fn fronts_of_a_checked_document_may_end_behind_each_section(rt: HostRuntime) -> 
 fn fronts_of_a_program_end_before_its_end(rt: HostRuntime) -> Result<(), Fail> {
     let text = SHOWN[0].1;
     let wholes = [(1, Status::Done, None, text)];
-    check_fronts(&rt, rt.alloc(), "check", text, &wholes, false)
+    check_fronts(&rt, rt.alloc(), &["check"], text, &wholes)
 }

@@ -1,4 +1,5 @@
-//! Journals, and rows of the commands that explain them: documents that are renewed, whose rounds are counted, and elections.
+//! Journals, and rows of the commands that explain them: documents that are renewed, gone back
+//! along, whose rounds are counted, and elections.
 
 use crate::pieces::{
     DRAG, DRAGGED_EXCHANGED, DRAGGED_FINAL, DRAGGED_JOURNAL, EXPANDED, ONE, OUT, Row, TRAILED_0,
@@ -91,6 +92,33 @@ pub static DIFFERENT: [Row; 4] = [
     (
         "renew",
         &[DRAG, TRAILED_0, DRAGGED_EXCHANGED, DRAGGED_FINAL],
+        Differs(0),
+        None,
+        &["differs 0\n"],
+    ),
+];
+
+/// The words that go back to the start of a journal.
+pub const TO_START: &[&str] = &["rewind", "0"];
+
+/// The worked example in version 3, which is gone back along to its start, and the same with another old value.
+pub static REWOUND: [Row; 2] = [
+    (
+        "rewind",
+        &[OUT_3, ONE, EXPANDED_3, EXPANDED_FINAL],
+        Done,
+        None,
+        &[ONE],
+    ),
+    // With this rotation it would have gone elsewhere, and would have kept it.
+    (
+        "rewind",
+        &[
+            OUT_3,
+            ONE,
+            "journal\nentry 0 0 0 0 0 expand head 0 spot 3 3 empty to 0 body 0 2 3 2 3 1 + to 3 3 2 3 0 +\nend\n",
+            EXPANDED_FINAL,
+        ],
         Differs(0),
         None,
         &["differs 0\n"],

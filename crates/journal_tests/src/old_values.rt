@@ -4,7 +4,7 @@ use crate::tampered::REST;
 use amoebot_run::Status::{Differs, Done};
 use amoebot_state::{Entry, PlainEntry};
 use amoebot_tests::calls::{check, check_faults, check_rows, joined};
-use amoebot_tests::journals::{EXPANDED_3, OUT_3};
+use amoebot_tests::journals::{EXPANDED_3, EXPANDED_FINAL, OUT_3, WORKED_TURNS};
 use amoebot_tests::pieces::{
     DONE, DRAG, DRAGGED_FINAL, DRAGGED_JOURNAL, EXPANDED, FAR, FAR_FINAL, FAR_JOURNAL, Fault,
     GUARDED, MARK, NO_ENTRY, ONE, ONE_EACH, ONE_TURN, OUT, PULL, PULLED, PUSH, Row, TRAILED,
@@ -55,10 +55,7 @@ static RUNS: [Run; 12] = [
         1,
         EXPANDED,
         EXPANDED_3,
-        &[
-            "final\narea 0 0 8 8\nbot 3 3 2 3 0 +\nend\n",
-            "turns\nturn 0 0 done 0\nturn 0 1 idle 1\nend\n",
-        ],
+        &[EXPANDED_FINAL, WORKED_TURNS],
     ),
     // The amoebot is turned and mirrored.
     (
@@ -371,7 +368,7 @@ pub static REFUSED: [Fault; 10] = [
             ONE,
             TWO_TURNS,
             EXPANDED_3,
-            "final\narea 0 0 8 8\nbot 3 3 2 3 0 +\nend\n",
+            EXPANDED_FINAL,
         ],
         1,
         BadRange,
@@ -380,16 +377,10 @@ pub static REFUSED: [Fault; 10] = [
 ];
 
 /// The worked example in version 3, in which the entry is the same or another one.
-pub static COMPARED: [Row; 12] = [
+pub static COMPARED: [Row; 13] = [
     (
         "replay",
-        &[
-            OUT_3,
-            ONE,
-            TWO_TURNS,
-            EXPANDED_3,
-            "final\narea 0 0 8 8\nbot 3 3 2 3 0 +\nend\n",
-        ],
+        &[OUT_3, ONE, TWO_TURNS, EXPANDED_3, EXPANDED_FINAL],
         Done,
         None,
         &["agrees 1\n"],
@@ -477,6 +468,21 @@ pub static COMPARED: [Row; 12] = [
             TWO_TURNS,
             "journal\n",
             "entry 0 0 0 0 0 expand head 0 body 0 2 3 2 3 0 + to 3 3 2 3 0 + spot 3 3 empty to 0\n",
+            REST,
+        ],
+        Differs(0),
+        None,
+        &["differs 0\n"],
+    ),
+    // Another node, which was empty as well.
+    (
+        "replay",
+        &[
+            OUT_3,
+            ONE,
+            TWO_TURNS,
+            "journal\n",
+            "entry 0 0 0 0 0 expand head 0 spot 3 4 empty to 0 body 0 2 3 2 3 0 + to 3 3 2 3 0 +\n",
             REST,
         ],
         Differs(0),
@@ -595,12 +601,7 @@ static COMMANDS: [Row; 4] = [
     ),
     (
         "measure",
-        &[
-            OUT_3,
-            ONE,
-            EXPANDED_3,
-            "final\narea 0 0 8 8\nbot 3 3 2 3 0 +\nend\n",
-        ],
+        &[OUT_3, ONE, EXPANDED_3, EXPANDED_FINAL],
         Done,
         None,
         &["bots 1\nconnected yes\nhexagon no\n"],
