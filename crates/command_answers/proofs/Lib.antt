@@ -7,6 +7,8 @@ pub mod SomethingOwedLemmas
 pub mod ExampleLemmas
 pub mod ExplainExampleLemmas
 pub mod SmallDocuments
+pub mod ElectDocuments
+pub mod ElectExampleLemmas
 pub mod TaskLemmas
 pub mod Bodies
 pub mod PatchLemmas

@@ -27,7 +27,7 @@ use Rattle.shape_files.specs.DocumentReaders.{a_checked_program, journal_body, b
 use Rattle.shape_files.proofs.DocumentsLemmas.{framed_from, says_from}
 use Rattle.command_runs.specs.Examples.{one_alone}
 use Rattle.command_answers.specs.Examples.{with_shape, with_nobody, with_list, with_two_lists, with_schedule, expansion_journal, spread_text, still_text, spread_config, and_nobody, and_list, and_two_lists, and_schedule, and_journal, empty_refused}
-use Rattle.command_answers.specs.ExplainExamples.{shape_in_version_3, full_journal, recorded_with_nobody, and_full_journal, and_empty_journal, early_refused}
+use Rattle.command_answers.specs.ExplainExamples.{full_text, still_full_text, wide_full_text, other_old_text, recorded_with_nobody, wide_spread, other_expansion, and_entry, and_full_journal, and_empty_journal, early_refused}
 
 abbrev pub answer_from : ℕ → Form → List ℕ → Result Contents Refusal
 answer_from least form text = whole_input Trailing (document_from least form) (last_of (point text 0)) (ahead_of (point text 0))
@@ -53,10 +53,13 @@ pub record AreAnswered : Type 0 where
   pub other_final : answer_of form.Replay (with_shape ++ expansion_journal ++ still_text) ≡ Ok (and_journal one_alone)
   pub program : answer_of form.Check program_text ≡ Ok only_program
   pub nobody : answer_of form.Measure with_nobody ≡ Ok and_nobody
-  pub full_journal : answer_from 3 form.Replay (shape_in_version_3 ++ full_journal ++ spread_text) ≡ Ok (and_full_journal spread_config)
+  pub full_journal : answer_from 3 form.Replay full_text ≡ Ok (and_full_journal spread_config)
+  pub still_journal : answer_from 3 form.Replay still_full_text ≡ Ok (and_full_journal one_alone)
+  pub wide_journal : answer_from 3 form.Replay wide_full_text ≡ Ok (and_full_journal wide_spread)
+  pub other_old : answer_of form.Replay other_old_text ≡ Ok (and_entry other_expansion spread_config)
   pub early : answer_from 3 form.Replay (with_shape ++ expansion_journal ++ spread_text) ≡ Err early_refused
   pub empty_journal : answer_of form.Replay recorded_with_nobody ≡ Ok and_empty_journal
 
 pub are_answered : AreAnswered
 unfolding same_kind same_role role scan.skip scan.ready scan.sign_len scan.front scan.scan scan.scan_end scan.ahead_of scan.last_of one_within the_line numeral either by_role limited times elements repeated a_selection a_port a_term a_minus a_sum a_unit a_conj an_expr inside an_if a_for a_stmt all_stmts stmts_inside a_move an_action a_var a_guarded a_program part.an_int part.a_node part.an_end part.a_chirality part.a_port_text part.a_bot journal.port_behind journal.end_behind journal.a_movement journal.a_cell journal.an_occupant journal.a_value journal.an_old_value journal.a_pair journal.all_pairs journal.the_numbers journal.entry_word journal.a_written_entry journal.an_entry journal.entries_from journal.journal_by shape.a_side shape.an_area shape.wall_word shape.a_wall_line shape.walls_from shape.bot_word shape.a_bot_line shape.bots_from shape.a_drawing shape.a_written_shape shape.shape_under schedule.an_id schedule.ids_from schedule.all_ids schedule.list_word schedule.a_list schedule.lists_from schedule.all_lists schedule.some_turns schedule.the_lists schedule.a_caller schedule.number_of_times schedule.its_times schedule.any_times schedule.a_stretch schedule.stretches_from schedule.all_steps schedule.a_schedule a_checked_program journal_body body document_from rest_at header_from in_frame_from
-are_answered = record { empty = refl; list = refl; two_lists = refl; schedule = refl; journal = refl; other_final = refl; program = refl; nobody = refl; full_journal = refl; early = refl; empty_journal = refl }
+are_answered = record { empty = refl; list = refl; two_lists = refl; schedule = refl; journal = refl; other_final = refl; program = refl; nobody = refl; full_journal = refl; still_journal = refl; wide_journal = refl; other_old = refl; early = refl; empty_journal = refl }

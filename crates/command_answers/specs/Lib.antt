@@ -11,6 +11,7 @@ pub mod Owed
 pub mod Reads
 pub mod Examples
 pub mod ExplainExamples
+pub mod ElectExamples
 pub mod ReplayLaws
 pub mod RenewLaws
 pub mod RewindLaws

@@ -4,6 +4,7 @@ ghost use Rattle.command_answers.specs.Laws.{DocumentsHaveOutcomes, OwedIsOne, O
 ghost use Rattle.command_answers.specs.Laws.{ReportsAreOfDocuments, ReportsAreOfSamples, ReportsAreOfTurns};
 ghost use Rattle.command_answers.specs.Examples.{SmallAnswers};
 ghost use Rattle.command_answers.specs.ExplainExamples.{SmallExplanations};
+ghost use Rattle.command_answers.specs.ElectExamples.{SmallElections};
 
 use action_meaning::changes_are_acts;
 use claim_core::{
@@ -119,9 +120,14 @@ pub fn small_answers()
     one_list_is_serial();
 }
 
-/// For `rewind`, `rounds` and `elect`, calls and what they owe.
+/// For journals with old values, and for `rewind`, `rounds` and `elect`, calls and what they owe.
 pub fn small_explanations()
     ensures { SmallExplanations }
 {
     reached_is_good();
 }
+
+/// For `elect` of the program `erosion`, calls and what they owe. Also a start that is ready, and a world that is elected.
+pub fn small_elections()
+    ensures { SmallElections }
+{}

@@ -30,7 +30,7 @@ pub use answer::{Answer, Maker, Prepared, Task, Telling};
 pub use elect_laws::elections_are_won;
 pub use laws::{
     documents_have_outcomes, owed_is_one, owed_is_some, prepared_is_one, reports_are_of_runs,
-    small_answers, small_explanations, task_is_one,
+    small_answers, small_elections, small_explanations, task_is_one,
 };
 pub use of_sample::prepare_sample;
 pub use of_show::answer_show;
