@@ -25,6 +25,3 @@ pub use renewing::follow_all;
 pub use replaying::{compare, compare_plain};
 pub use sampling::print_sample;
 pub use texts::{print_agrees, print_check, print_differs, print_renewed, print_report};
-
-#[cfg(test)]
-mod tests;

@@ -7,6 +7,3 @@ mod syntax;
 
 pub use command::{Command, DocumentCommand, command_of};
 pub use laws::{command_is_its_words, small_words};
-
-#[cfg(test)]
-mod tests;

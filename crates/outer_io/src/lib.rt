@@ -11,8 +11,6 @@ mod std_sink;
 mod std_source;
 mod sure_sink;
 mod sure_source;
-#[cfg(test)]
-mod tests;
 mod writing;
 
 pub use errors::{Failed, NoMemory, ReadError, WriteFault};

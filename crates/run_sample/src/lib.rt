@@ -10,6 +10,3 @@ pub use laws::{
     first_empty_is_unique, first_of_seed_one, sample_is_fit, sample_is_some, sample_is_unique,
 };
 pub use whole::{Sample, make_sample};
-
-#[cfg(test)]
-mod tests;

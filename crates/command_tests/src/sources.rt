@@ -1,6 +1,6 @@
 ghost use Rattle.std.specs.declared.option.Option.TheVariants.{Some, None};
 
-use crate::{
+use outer_io::{
     Document, Failed, MemSink, MemSource, ReadError, Source, StdSink, StdSource, SureSink,
     SureSource, WriteFault, read_document, write_all,
 };

@@ -1,4 +1,4 @@
-use crate::make_sample;
+use run_sample::make_sample;
 use shape_checks::is_connected;
 use std::test::Fail;
 

@@ -5,12 +5,12 @@ ghost use Rattle.std.specs.List.{All};
 ghost use Rattle.amoebot_state.specs.Limits.{most_bots, most_vars};
 ghost use Rattle.amoebot_state.specs.Refusals.{IsBotInRange};
 
-use crate::{
+use amoebot_state::{Bot, Decider, End, Entry, NoMemory, PlainEntry, Port, World};
+use claim_core::Report;
+use command_runs::{
     RoundCount, compare, compare_plain, count_rounds, follow_all, print_agrees, print_differs,
     print_election, print_report, print_rounds, run_interleaved,
 };
-use amoebot_state::{Bot, Decider, End, Entry, NoMemory, PlainEntry, Port, World};
-use claim_core::Report;
 use schedule_text::{Schedule, read_schedule};
 use serial_model::Differs;
 use small_worlds::{Expander, Marker, lists_of, spread, standing, world_of};
