@@ -1,10 +1,10 @@
 //! Documents of the other commands with what is written of them, programs that are shown, and words that are no command.
 
-use crate::pieces::{
+use amoebot_run::Status::{Differs, Done};
+use shared_tests::pieces::{
     DRAG, DRAGGED_EXCHANGED, DRAGGED_FINAL, DRAGGED_JOURNAL, EXPANDED, FAR, FAR_EXCHANGED,
     FAR_FINAL, FAR_JOURNAL, MARK, NO_ENTRY, ONE, ONE_EACH, OUT, Row, TRAILED_0, TWO, TWO_EACH,
 };
-use amoebot_run::Status::{Differs, Done};
 
 /// The name of each shipped program, and its text in the canonical form.
 pub static SHOWN: [(&str, &str); 3] = [

@@ -1,12 +1,12 @@
 //! Reads and writes that fail: each one of a call in turn, and what stands then.
 
-use crate::calls::joined;
 use crate::commands::{COMPARED_AND_CHECKED, INTERLEAVINGS, MEASURED, SHOWN};
-use crate::journals::{COUNTED, DIFFERENT, ELECTIONS, RENEWED, REWOUND, TO_START};
-use crate::pieces::{Row, WORKED};
 use crate::tests::{call, has_nothing, says};
 use amoebot_run::{Ended, Status};
 use outer_io::{Failed, MemSink, MemSource, Source, SureSink, SureSource};
+use shared_tests::calls::joined;
+use shared_tests::journals::{COUNTED, DIFFERENT, ELECTIONS, RENEWED, REWOUND, TO_START};
+use shared_tests::pieces::{Row, WORKED};
 use std::alloc::Global;
 use std::process::Abort;
 use std::sync::Wait;

@@ -1,6 +1,6 @@
 //! Documents that break off, or break a rule.
 
-use crate::pieces::{Fault, ONE, OUT, TWO_TURNS};
+use shared_tests::pieces::{Fault, ONE, OUT, TWO_TURNS};
 use text_tokens::RefusalKind::{
     BadId, NotAdjacent, OutOfBox, Overlap, Trailing, Truncated, Unexpected,
 };

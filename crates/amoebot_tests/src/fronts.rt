@@ -4,11 +4,11 @@
 //! Or it ends inside a token. What is left of a number is a number, and what is left of another word is a name where a
 //! name may stand. Else that token is at fault.
 
-use crate::calls::{check, joined};
 use crate::commands::{COMPARED_AND_CHECKED, INTERLEAVINGS, MEASURED, SHOWN};
-use crate::journals::{COUNTED, ELECTIONS, RENEWED, REWOUND, TO_START};
-use crate::pieces::{Row, WORKED};
 use amoebot_run::Status;
+use shared_tests::calls::{check, joined};
+use shared_tests::journals::{COUNTED, ELECTIONS, RENEWED, REWOUND, TO_START};
+use shared_tests::pieces::{Row, WORKED};
 use std::alloc::{AllocError, Global};
 use std::mem;
 use std::sync::Wait;

@@ -1,7 +1,6 @@
-//! Tests of `run` and `run_text`: whole documents with what is written of them. The public modules are for other crates of such tests.
+//! Tests of `run` and `run_text`: whole documents with what is written of them.
 #![tactic(auto)]
 
-pub mod calls;
 #[cfg(test)]
 mod commands;
 #[cfg(test)]
@@ -10,9 +9,6 @@ mod failing;
 mod faults;
 #[cfg(test)]
 mod fronts;
-pub mod journals;
-pub mod pieces;
-pub mod replays;
 #[cfg(test)]
 mod runs;
 #[cfg(test)]

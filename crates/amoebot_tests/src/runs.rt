@@ -1,10 +1,10 @@
 //! Documents that are run, with what is written of them.
 
-use crate::pieces::{
+use amoebot_run::Status::Done;
+use shared_tests::pieces::{
     DONE, GUARDED, MARK, NO_ENTRY, ONE, ONE_EACH, ONE_TURN, OUT, PULL, PULLED, PUSH, Row, TRAILED,
     TWO, UNGUARDED, WORKED,
 };
-use amoebot_run::Status::Done;
 
 /// Runs whose text is decided: of at most one list, and of two lists that never meet and change nothing. Some turns fail.
 pub static RUNS: [Row; 14] = [

@@ -1,15 +1,15 @@
 ghost use Rattle.std.specs.declared.option.Option.{Option};
 
-use crate::calls::{check, check_faults, check_rows, joined, words};
 use crate::commands::{COMPARED_AND_CHECKED, INTERLEAVINGS, MEASURED, NO_COMMANDS, SHOWN};
 use crate::failing::{is_unread, unread};
 use crate::faults::FAULTS;
-use crate::pieces::USAGE;
 use crate::runs::{RUNS, WHOLE_PROGRAMS};
 use activation::NoGate;
 use amoebot_run::{Ended, Status, run};
 use arrayvec::ArrayVec;
 use outer_io::{Failed, Sink, Source, SureSink, SureSource};
+use shared_tests::calls::{check, check_faults, check_rows, joined, words};
+use shared_tests::pieces::USAGE;
 use std::alloc::{AllocError, Global};
 use std::process::Abort;
 use std::sync::Wait;

@@ -1,12 +1,12 @@
 //! The command `tickets`: documents of at most one list leave by it what they leave by `run`, and are refused as by `run`.
 
-use crate::calls::{check, joined, words};
 use crate::faults::FAULTS;
-use crate::pieces::{Fault, ONE, OUT, Row, TWO_TURNS};
 use crate::runs::{RUNS, WHOLE_PROGRAMS};
 use crate::walls::{COMMANDS as WALLED, REFUSED};
 use amoebot_run::{Ended, Status, run_text};
 use outer_io::SureSink;
+use shared_tests::calls::{check, joined, words};
+use shared_tests::pieces::{Fault, ONE, OUT, Row, TWO_TURNS};
 use std::alloc::Global;
 use std::process::Abort;
 use std::sync::Wait;

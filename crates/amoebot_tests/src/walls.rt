@@ -1,10 +1,10 @@
 //! Documents of version 2: worlds with walls, what an amoebot does beside one, and texts with walls that are refused.
 
-use crate::calls::{check, check_faults, check_rows, joined};
-use crate::pieces::{
+use amoebot_run::Status::{Differs, Done};
+use shared_tests::calls::{check, check_faults, check_rows, joined};
+use shared_tests::pieces::{
     EXPANDED, FAR_JOURNAL, Fault, NO_ENTRY, ONE, ONE_EACH, ONE_TURN, OUT, Row, TWO_EACH,
 };
-use amoebot_run::Status::{Differs, Done};
 use std::alloc::Global;
 use std::sync::Wait;
 use std::test::Fail;

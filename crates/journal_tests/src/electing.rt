@@ -7,13 +7,13 @@ use crate::{old_values, tampered};
 use activation::NoGate;
 use amoebot_run::Status::{self, Differs, Done};
 use amoebot_state::World;
-use amoebot_tests::calls::{check, check_faults, check_rows, joined};
-use amoebot_tests::journals::{ELECTIONS, TWO_CANDIDATES};
-use amoebot_tests::pieces::{
+use shared_tests::calls::{check, check_faults, check_rows, joined};
+use shared_tests::journals::{ELECTIONS, TWO_CANDIDATES};
+use shared_tests::pieces::{
     ERODE, EXPANDED, Fault, NO_ENTRY, ONE, OUT, SEVEN, SEVEN_FINAL, SEVEN_JOURNAL, SIX, SIX_FINAL,
     TWO_TURNS, Told,
 };
-use amoebot_tests::replays::{Replayed, run_and_replay};
+use shared_tests::replays::{Replayed, run_and_replay};
 use std::alloc::{AllocError, Global};
 use std::sync::Wait;
 use std::test::Fail;

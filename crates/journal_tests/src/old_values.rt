@@ -3,14 +3,14 @@
 use crate::tampered::REST;
 use amoebot_run::Status::{Differs, Done};
 use amoebot_state::{Entry, PlainEntry};
-use amoebot_tests::calls::{check, check_faults, check_rows, joined};
-use amoebot_tests::journals::{EXPANDED_3, EXPANDED_FINAL, OUT_3, WORKED_TURNS};
-use amoebot_tests::pieces::{
+use shape_files::{Form, Parts, read_sections};
+use shared_tests::calls::{check, check_faults, check_rows, joined};
+use shared_tests::journals::{EXPANDED_3, EXPANDED_FINAL, OUT_3, WORKED_TURNS};
+use shared_tests::pieces::{
     DONE, DRAG, DRAGGED_FINAL, DRAGGED_JOURNAL, EXPANDED, FAR, FAR_FINAL, FAR_JOURNAL, Fault,
     GUARDED, MARK, NO_ENTRY, ONE, ONE_EACH, ONE_TURN, OUT, PULL, PULLED, PUSH, Row, TRAILED,
     TRAILED_0, TWO, TWO_EACH, TWO_TURNS, UNGUARDED,
 };
-use shape_files::{Form, Parts, read_sections};
 use std::alloc::{AllocError, Global};
 use std::process::Abort;
 use std::sync::Wait;

@@ -3,11 +3,11 @@
 use crate::old_values::{DRAGGED_JOURNAL_3, FAR_EXCHANGED_3};
 use crate::{old_values, tampered};
 use amoebot_run::Status::{self, Done};
-use amoebot_tests::calls::{check, check_rows, joined};
-use amoebot_tests::journals::{
+use shared_tests::calls::{check, check_rows, joined};
+use shared_tests::journals::{
     DIFFERENT, EXPANDED_3, EXPANDED_FINAL, OUT_3, OUT_RENEWED, RENEWED, WORKED_TURNS,
 };
-use amoebot_tests::pieces::{
+use shared_tests::pieces::{
     DRAG, DRAGGED_FINAL, DRAGGED_JOURNAL, EXPANDED, FAR, FAR_EXCHANGED, FAR_FINAL, Fault, NO_ENTRY,
     ONE, ONE_EACH, OUT, Row, TRAILED_0, TWO_TURNS,
 };

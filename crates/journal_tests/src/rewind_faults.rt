@@ -2,8 +2,8 @@
 //! not, documents that are none, and words that are no command.
 
 use amoebot_run::Status::{self, Differs};
-use amoebot_tests::journals::{EXPANDED_3, EXPANDED_FINAL, OUT_RENEWED};
-use amoebot_tests::pieces::{NO_ENTRY, ONE};
+use shared_tests::journals::{EXPANDED_3, EXPANDED_FINAL, OUT_RENEWED};
+use shared_tests::pieces::{NO_ENTRY, ONE};
 use text_tokens::RefusalKind::{
     self, BadEntry, BadPlace, BadRange, OutOfBox, Trailing, Truncated, Unexpected,
 };

@@ -6,9 +6,9 @@ use crate::rewind_faults::{
     NO_REWINDS, OTHER_FRAMES, REFUSED, Refused, Rewinding, STILL_FINAL, TAMPERED,
 };
 use amoebot_run::Status::{self, Differs, Done};
-use amoebot_tests::calls::{check, joined};
-use amoebot_tests::journals::{EXPANDED_3, EXPANDED_FINAL, OUT_RENEWED};
-use amoebot_tests::pieces::{DRAGGED_FINAL, NO_ENTRY, ONE, TRAILED_0, USAGE};
+use shared_tests::calls::{check, joined};
+use shared_tests::journals::{EXPANDED_3, EXPANDED_FINAL, OUT_RENEWED};
+use shared_tests::pieces::{DRAGGED_FINAL, NO_ENTRY, ONE, TRAILED_0, USAGE};
 use std::alloc::Global;
 use std::sync::Wait;
 use std::test::Fail;

@@ -7,16 +7,16 @@ use action_eval::Runner;
 use activation::NoGate;
 use amoebot_run::Status::Done;
 use amoebot_run::run_text;
-use amoebot_tests::calls::{check, check_rows, joined, words};
-use amoebot_tests::journals::COUNTED;
-use amoebot_tests::pieces::{
-    DRAG, DRAGGED_FINAL, DRAGGED_JOURNAL, ERODE, EXPANDED, MARK, NO_ENTRY, ONE, OUT, SEVEN,
-    SEVEN_FINAL, SEVEN_JOURNAL, SIX, SIX_FINAL, TRAILED_0, TWO, TWO_TURNS, Told,
-};
-use amoebot_tests::replays::{Replayed, run_and_replay};
 use claim_core::Report;
 use outer_io::SureSink;
 use shape_files::{Form, read_sections};
+use shared_tests::calls::{check, check_rows, joined, words};
+use shared_tests::journals::COUNTED;
+use shared_tests::pieces::{
+    DRAG, DRAGGED_FINAL, DRAGGED_JOURNAL, ERODE, EXPANDED, MARK, NO_ENTRY, ONE, OUT, SEVEN,
+    SEVEN_FINAL, SEVEN_JOURNAL, SIX, SIX_FINAL, TRAILED_0, TWO, TWO_TURNS, Told,
+};
+use shared_tests::replays::{Replayed, run_and_replay};
 use shipped_programs::{EROSION, HEXAGON};
 use std::alloc::{AllocError, Global};
 use std::sync::Wait;

@@ -1,8 +1,8 @@
 //! Journals that were tampered with: the worked example with its text behind it, in which the entry is another one.
 
 use amoebot_run::Status::{Differs, Done};
-use amoebot_tests::calls::{check_faults, check_rows};
-use amoebot_tests::pieces::{Fault, ONE, OUT, Row, TWO_TURNS};
+use shared_tests::calls::{check_faults, check_rows};
+use shared_tests::pieces::{Fault, ONE, OUT, Row, TWO_TURNS};
 use std::test::Fail;
 use text_tokens::RefusalKind::{BadEntry, BadPlace};
 

@@ -3,8 +3,8 @@
 use crate::meetings::{FOUR_APART, ON_THREADS};
 use crate::reports::right_report;
 use activation::Gate;
-use amoebot_tests::calls::joined;
 use claim_core::{Mark, Marks};
+use shared_tests::calls::joined;
 use std::alloc::Global;
 use std::process::Abort;
 use std::sync::Wait;

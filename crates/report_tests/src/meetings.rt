@@ -1,6 +1,6 @@
 //! Documents whose callers meet, and one whose callers never do.
 
-use amoebot_tests::pieces::{FAR, MARK, OUT, OUT_AND_BACK};
+use shared_tests::pieces::{FAR, MARK, OUT, OUT_AND_BACK};
 
 /// The words that make the turns of each list by a worker of its own.
 pub const ON_THREADS: [&str; 2] = ["run", "tickets"];

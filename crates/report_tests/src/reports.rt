@@ -6,12 +6,12 @@ use crate::meetings::{MEETINGS, ON_THREADS, ONE_FOR_SIXTEEN, SIXTEEN_APART, SIXT
 use action_eval::Runner;
 use activation::{Gate, NoGate};
 use amoebot_run::{Status, run_text};
-use amoebot_tests::calls::{joined, words};
-use amoebot_tests::replays::{Replayed, run_and_replay};
 use claim_core::Report;
 use claim_tests::is_report;
 use outer_io::SureSink;
 use shape_files::{Form, read_sections};
+use shared_tests::calls::{joined, words};
+use shared_tests::replays::{Replayed, run_and_replay};
 use shipped_programs::HEXAGON;
 use std::alloc::{AllocError, Global};
 use std::process::Abort;
