@@ -430,11 +430,7 @@ fn is_valued(rt: &impl Abort, alloc: Global, world: &World, asked: &Asked) -> Re
             );
         }
         (Verdict::Idle, False) => {}
-        (Verdict::Failed(failure), Fails(wanted)) => assert_eq!(rt;
-            failure,
-            wanted,
-            "{expression}"
-        ),
+        (Verdict::Failed(failure), Fails(wanted)) => assert!(rt; failure == wanted, "{expression}"),
         _ => panic!(rt; "{expression}"),
     }
     Ok(())

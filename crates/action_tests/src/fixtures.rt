@@ -92,7 +92,7 @@ pub fn runs(
         match (serial.activate(&runner, 0, number as u32, *bot), told) {
             (Turned::Idle, Told::Idle) => {}
             (Turned::Failed(failure), Told::Failed(wanted)) => {
-                assert_eq!(rt; failure, *wanted, "turn {number} of {text}");
+                assert!(rt; failure == *wanted, "turn {number} of {text}");
             }
             (Turned::Done(entry), Told::Done(wanted)) => {
                 is_entry(rt, alloc, &runner, entry, wanted)?;

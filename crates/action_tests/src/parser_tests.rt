@@ -51,7 +51,7 @@ fn are_read(rt: &impl Abort, alloc: Global, table: &[Read]) -> Result<(), AllocE
             panic!(rt; "{text}");
         };
         let found = written(alloc, &program)?;
-        assert_eq!(rt; found.as_str(), *tree, "{text}");
+        assert!(rt; found.as_str() == *tree, "{text}");
     }
     Ok(())
 }
@@ -60,7 +60,7 @@ fn are_read(rt: &impl Abort, alloc: Global, table: &[Read]) -> Result<(), AllocE
 fn are_refused(rt: &impl Abort, alloc: Global, table: &[Fault]) -> Result<(), AllocError> {
     for (text, line, kind) in table {
         let found = fault(alloc, text)?;
-        assert_eq!(rt; found, Some((*line, *kind)), "{text}");
+        assert!(rt; found == Some((*line, *kind)), "{text}");
     }
     Ok(())
 }
@@ -70,7 +70,7 @@ fn are_limited(rt: &impl Abort, alloc: Global, table: &[Long]) -> Result<(), All
     for row in table {
         let text = long_text(alloc, row)?;
         let found = fault(alloc, text.as_str())?;
-        assert_eq!(rt; found, row.6, "{text}");
+        assert!(rt; found == row.6, "{text}");
     }
     Ok(())
 }
@@ -183,8 +183,8 @@ fn hexagon_is_read(rt: HostRuntime) -> Result<(), Fail> {
     let mut tokens = Tokens::new(HEXAGON.as_bytes());
     let program = parse_program(rt.alloc(), &mut tokens)?;
     assert!(rt; !program.guard());
-    assert_eq!(rt; program.vars().len(), 3);
-    assert_eq!(rt; program.actions().len(), 6);
-    assert_eq!(rt; tokens.next(), Ok(None));
+    assert!(rt; program.vars().len() == 3);
+    assert!(rt; program.actions().len() == 6);
+    assert!(rt; tokens.next() == Ok(None));
     Ok(())
 }

@@ -36,8 +36,8 @@ pub(crate) fn call<R: Threads + Wait + Sync, S: Source, K: Sink>(
 
 /// The call ended so, and wrote this text and all of it.
 pub(crate) fn says(rt: &impl Abort, ended: &Ended, out: &SureSink, status: Status, text: &str) {
-    assert_eq!(rt; ended.status, status);
-    assert_eq!(rt; out.bytes(), text.as_bytes());
+    assert!(rt; ended.status == status);
+    assert!(rt; out.bytes() == text.as_bytes());
     assert!(rt; out.whole());
 }
 
@@ -225,7 +225,7 @@ fn a_sample_is_told_in_six_lines_and_nothing_is_read(rt: HostRuntime) -> Result<
             turns,
             tickets,
         } = call(&rt, rt.alloc(), &["sample", number], &mut input, &mut out)?;
-        assert_eq!(rt; status, Status::Done);
+        assert!(rt; status == Status::Done);
         let lines = joined(
             rt.alloc(),
             &[
@@ -233,14 +233,14 @@ fn a_sample_is_told_in_six_lines_and_nothing_is_read(rt: HostRuntime) -> Result<
                 "bots 150\ncallers 4\nturns 16000\nconnected yes\nreplay yes\n",
             ],
         )?;
-        assert_eq!(rt; out.bytes(), lines.as_bytes());
+        assert!(rt; out.bytes() == lines.as_bytes());
         assert!(rt; is_unread(&mut input));
         assert!(rt; turns.is_some() && tickets.is_none());
         let report = report.ok_or("a report")?;
-        assert_eq!(rt; report.world.bots(), 150);
-        assert_eq!(rt; report.turns.callers(), 4);
+        assert!(rt; report.world.bots() == 150);
+        assert!(rt; report.turns.callers() == 4);
         for caller in 0..report.turns.callers() {
-            assert_eq!(rt; report.turns.count(caller), 4000);
+            assert!(rt; report.turns.count(caller) == 4000);
         }
         assert!(rt; !report.journal.entries().is_empty());
     }
@@ -278,9 +278,9 @@ fn answers_a_write_that_fails(rt: HostRuntime) -> Result<(), Fail> {
             faults: 0,
         };
         let ended = call(&rt, rt.alloc(), texts, &mut input, &mut out)?;
-        assert_eq!(rt; ended.status, Status::WriteFault);
+        assert!(rt; ended.status == Status::WriteFault);
         assert!(rt; ended.report.is_none());
-        assert_eq!(rt; out.taken.as_slice(), taken.as_bytes());
+        assert!(rt; out.taken.as_slice() == taken.as_bytes());
     }
     Ok(())
 }
@@ -303,7 +303,7 @@ fn each_status_has_its_number(rt: HostRuntime) -> Result<(), Fail> {
         (Status::Differs(0), 7),
     ];
     for (status, number) in numbers {
-        assert_eq!(rt; status.number(), number);
+        assert!(rt; status.number() == number);
     }
     Ok(())
 }

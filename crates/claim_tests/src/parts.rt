@@ -10,12 +10,12 @@ fn each_caller_goes_through_its_list_again(rt: HostRuntime) -> Result<(), Fail> 
     let mut lists = Lists::new(alloc, 3).ok().ok_or("no lists")?;
     lists.add(alloc, &[7, 4]).ok().ok_or("no list")?;
     lists.add(alloc, &[9]).ok().ok_or("no list")?;
-    assert_eq!(rt; lists.callers(), 2);
-    assert_eq!(rt; lists.turns(), 3);
-    assert_eq!(rt; lists.bot(0, 0), 7);
-    assert_eq!(rt; lists.bot(0, 1), 4);
-    assert_eq!(rt; lists.bot(0, 2), 7);
-    assert_eq!(rt; lists.bot(1, 2), 9);
+    assert!(rt; lists.callers() == 2);
+    assert!(rt; lists.turns() == 3);
+    assert!(rt; lists.bot(0, 0) == 7);
+    assert!(rt; lists.bot(0, 1) == 4);
+    assert!(rt; lists.bot(0, 2) == 7);
+    assert!(rt; lists.bot(1, 2) == 9);
     Ok(())
 }
 
@@ -27,8 +27,8 @@ fn room_that_is_there_is_kept(rt: HostRuntime) -> Result<(), Fail> {
     let mut journal = Journal::make(alloc, &world).ok().ok_or("no journal")?;
     journal.reserve(alloc, 2).ok().ok_or("no room")?;
     journal.reserve(alloc, 1).ok().ok_or("no room")?;
-    assert_eq!(rt; journal.entries().len(), 0);
-    assert_eq!(rt; journal.first().bots(), 0);
+    assert!(rt; journal.entries().len() == 0);
+    assert!(rt; journal.first().bots() == 0);
     Ok(())
 }
 
@@ -38,11 +38,11 @@ fn marks_are_those_of_their_caller_in_order(rt: HostRuntime) -> Result<(), Fail>
     marks.add(1, Mark::Idle { place: 0 });
     marks.add(0, Mark::Done { place: 0 });
     marks.add(1, Mark::Done { place: 1 });
-    assert_eq!(rt; marks.callers(), 2);
-    assert_eq!(rt; marks.count(0), 1);
-    assert_eq!(rt; marks.count(1), 2);
-    assert_eq!(rt; marks.mark(0, 0), Mark::Done { place: 0 });
-    assert_eq!(rt; marks.mark(1, 0), Mark::Idle { place: 0 });
-    assert_eq!(rt; marks.mark(1, 1), Mark::Done { place: 1 });
+    assert!(rt; marks.callers() == 2);
+    assert!(rt; marks.count(0) == 1);
+    assert!(rt; marks.count(1) == 2);
+    assert!(rt; marks.mark(0, 0) == Mark::Done { place: 0 });
+    assert!(rt; marks.mark(1, 0) == Mark::Idle { place: 0 });
+    assert!(rt; marks.mark(1, 1) == Mark::Done { place: 1 });
     Ok(())
 }

@@ -95,7 +95,7 @@ fn a_caller_finds_a_node_held(rt: HostRuntime) -> Result<(), Fail> {
         turn 1 0 busy spot 3 3 by 0 0 0 place 0\n\
         turn 1 1 done 1\n\
         end\n";
-    assert_eq!(rt; text.bytes(), expected.as_bytes());
+    assert!(rt; text.bytes() == expected.as_bytes());
     Ok(())
 }
 
@@ -119,7 +119,7 @@ fn two_callers_find_each_other(rt: HostRuntime) -> Result<(), Fail> {
         turn 0 0 busy spot 3 3 by 1 0 1 place 0\n\
         turn 1 0 busy spot 2 3 by 0 0 0 place 0\n\
         end\n";
-    assert_eq!(rt; text.bytes(), expected.as_bytes());
+    assert!(rt; text.bytes() == expected.as_bytes());
     Ok(())
 }
 
@@ -170,7 +170,7 @@ fn the_version_says_whether_the_old_values_are_written(rt: HostRuntime) -> Resul
     let report = far_report(rt.alloc())?;
     for (version, expected) in [(1, FAR), (2, FAR), (3, FAR_IN_FULL)] {
         let text = print_report(rt.alloc(), version, &report, 0)?;
-        assert_eq!(rt; text.bytes(), expected.as_bytes());
+        assert!(rt; text.bytes() == expected.as_bytes());
     }
     Ok(())
 }
@@ -219,7 +219,7 @@ fn a_journal_agrees_or_differs(rt: HostRuntime) -> Result<(), Fail> {
         let start = far_world(rt.alloc(), *from)?;
         let last = far_world(rt.alloc(), *to)?;
         let given = compared(rt.alloc(), start, report.journal.entries(), &last)?;
-        assert_eq!(rt; given, *answer);
+        assert!(rt; given == *answer);
     }
     Ok(())
 }
@@ -339,7 +339,7 @@ fn the_rounds_of_a_journal_are_counted(rt: HostRuntime) -> Result<(), Fail> {
         let last = far_world(rt.alloc(), *to)?;
         let front = report.journal.entries().get(..*count).ok_or("entries")?;
         let given = counted(rt.alloc(), start, front, &last)?;
-        assert_eq!(rt; given, *answer);
+        assert!(rt; given == *answer);
     }
     Ok(())
 }

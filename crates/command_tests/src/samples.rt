@@ -6,11 +6,11 @@ use std::test::Fail;
 fn the_sample_of_1_has_the_values_of_another_program(rt: HostRuntime) -> Result<(), Fail> {
     let sample = make_sample(rt.alloc(), 1)?;
     let world = &sample.world;
-    assert_eq!(rt; world.bots(), 150);
+    assert!(rt; world.bots() == 150);
     assert!(rt; is_connected(rt.alloc(), world)?);
     let first = [0, 2, 1, 2, 5, 2, 0, 4, 2, 4];
     for id in 0..10 {
-        assert_eq!(rt; world.bot(id).rot, first[usize::from(id)], "{id}");
+        assert!(rt; world.bot(id).rot == first[usize::from(id)], "{id}");
     }
     let last = [
         (67, 69, 0),
@@ -26,17 +26,16 @@ fn the_sample_of_1_has_the_values_of_another_program(rt: HostRuntime) -> Result<
     ];
     for k in 0..10 {
         let bot = world.bot(140 + k);
-        assert_eq!(rt;
-            (bot.head.x, bot.head.y, bot.rot),
-            last[usize::from(k)],
+        assert!(rt;
+            (bot.head.x, bot.head.y, bot.rot) == last[usize::from(k)],
             "{k}"
         );
     }
     let lists = &sample.lists;
-    assert_eq!(rt; lists.callers(), 4);
-    assert_eq!(rt; lists.turns(), 4000);
-    assert_eq!(rt; lists.bot(3, 0), 3);
-    assert_eq!(rt; lists.bot(3, 36), 147);
-    assert_eq!(rt; lists.bot(3, 37), 3);
+    assert!(rt; lists.callers() == 4);
+    assert!(rt; lists.turns() == 4000);
+    assert!(rt; lists.bot(3, 0) == 3);
+    assert!(rt; lists.bot(3, 36) == 147);
+    assert!(rt; lists.bot(3, 37) == 3);
     Ok(())
 }

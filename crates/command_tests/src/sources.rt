@@ -36,7 +36,7 @@ fn a_document_comes_whole_within_its_limit_and_each_read_fails_in_turn(
     for (limit, failing, size) in &READS {
         let mut source = MemSource::new(rt.alloc(), b"0123456789", 3, &[*failing])?;
         let read = read_document(rt.alloc(), &mut source, *limit);
-        assert_eq!(rt; size_of(read), *size, "limit {limit}, read {failing}");
+        assert!(rt; size_of(read) == *size, "limit {limit}, read {failing}");
     }
     Ok(())
 }
@@ -103,8 +103,8 @@ impl Source for Endless {
 fn one_byte_above_the_limit_is_asked_for(rt: HostRuntime) {
     let mut source = Endless { given: 0 };
     let read = read_document(rt.alloc(), &mut source, 9_000);
-    assert_eq!(rt; size_of(read), Err(ReadError::TooLong));
-    assert_eq!(rt; source.given, 9_001);
+    assert!(rt; size_of(read) == Err(ReadError::TooLong));
+    assert!(rt; source.given == 9_001);
 }
 
 /// Gives four bytes; then it fails and ends behind that, or ends and fails behind that.
@@ -132,8 +132,8 @@ fn no_read_follows_a_fault_or_the_end(rt: HostRuntime) {
     for (fails, size) in [(true, Err(ReadError::ReadFault)), (false, Ok(4))] {
         let mut torn = Torn { reads: 0, fails };
         let read = read_document(rt.alloc(), &mut StdSource::new(&mut torn), 4);
-        assert_eq!(rt; size_of(read), size);
-        assert_eq!(rt; torn.reads, 2);
+        assert!(rt; size_of(read) == size);
+        assert!(rt; torn.reads == 2);
     }
 }
 
@@ -168,6 +168,6 @@ fn a_writer_that_takes_nothing_is_a_write_fault_and_not_tried_again(rt: HostRunt
         given: 0,
     };
     let outcome = write_all(&mut StdSink::new(&mut halting), b"abcd");
-    assert_eq!(rt; outcome, Err(WriteFault));
-    assert_eq!(rt; (halting.writes, halting.given), (2, 6));
+    assert!(rt; outcome == Err(WriteFault));
+    assert!(rt; (halting.writes, halting.given) == (2, 6));
 }

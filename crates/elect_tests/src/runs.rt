@@ -273,72 +273,72 @@ static SQUARE: Run = Run {
 
 #[test]
 fn one_amoebot_leads(rt: HostRuntime) -> Result<(), Fail> {
-    assert_eq!(rt; first_difference(rt.alloc(), &ALONE)?, None);
+    assert!(rt; first_difference(rt.alloc(), &ALONE)? == None);
     Ok(())
 }
 
 #[test]
 fn of_two_the_second_leads_once_the_first_gave_up(rt: HostRuntime) -> Result<(), Fail> {
-    assert_eq!(rt; first_difference(rt.alloc(), &PAIR)?, None);
+    assert!(rt; first_difference(rt.alloc(), &PAIR)? == None);
     Ok(())
 }
 
 #[test]
 fn in_a_triangle_each_may_give_up(rt: HostRuntime) -> Result<(), Fail> {
-    assert_eq!(rt; first_difference(rt.alloc(), &TRIANGLE)?, None);
+    assert!(rt; first_difference(rt.alloc(), &TRIANGLE)? == None);
     Ok(())
 }
 
 #[test]
 fn the_middle_of_a_star_waits_for_one_arm(rt: HostRuntime) -> Result<(), Fail> {
-    assert_eq!(rt; first_difference(rt.alloc(), &STAR)?, None);
+    assert!(rt; first_difference(rt.alloc(), &STAR)? == None);
     Ok(())
 }
 
 #[test]
 fn a_line_is_left_by_its_ends(rt: HostRuntime) -> Result<(), Fail> {
-    assert_eq!(rt; first_difference(rt.alloc(), &LINE)?, None);
+    assert!(rt; first_difference(rt.alloc(), &LINE)? == None);
     Ok(())
 }
 
 #[test]
 fn a_line_is_left_by_its_ends_whatever_way_they_look(rt: HostRuntime) -> Result<(), Fail> {
-    assert_eq!(rt; first_difference(rt.alloc(), &LINE_TURNED)?, None);
+    assert!(rt; first_difference(rt.alloc(), &LINE_TURNED)? == None);
     Ok(())
 }
 
 #[test]
 fn a_ring_without_its_middle_stays(rt: HostRuntime) -> Result<(), Fail> {
-    assert_eq!(rt; first_difference(rt.alloc(), &RING)?, None);
+    assert!(rt; first_difference(rt.alloc(), &RING)? == None);
     Ok(())
 }
 
 #[test]
 fn a_ring_is_left_by_its_tail_alone(rt: HostRuntime) -> Result<(), Fail> {
-    assert_eq!(rt; first_difference(rt.alloc(), &RING_WITH_TAIL)?, None);
+    assert!(rt; first_difference(rt.alloc(), &RING_WITH_TAIL)? == None);
     Ok(())
 }
 
 #[test]
 fn a_full_hexagon_leaves_its_middle(rt: HostRuntime) -> Result<(), Fail> {
-    assert_eq!(rt; first_difference(rt.alloc(), &HEXAGON)?, None);
+    assert!(rt; first_difference(rt.alloc(), &HEXAGON)? == None);
     Ok(())
 }
 
 #[test]
 fn a_hexagon_in_which_each_looks_another_way_leaves_a_corner(rt: HostRuntime) -> Result<(), Fail> {
-    assert_eq!(rt; first_difference(rt.alloc(), &HEXAGON_TURNED)?, None);
+    assert!(rt; first_difference(rt.alloc(), &HEXAGON_TURNED)? == None);
     Ok(())
 }
 
 #[test]
 fn a_hexagon_with_a_tail_leaves_the_one_between(rt: HostRuntime) -> Result<(), Fail> {
-    assert_eq!(rt; first_difference(rt.alloc(), &HEXAGON_WITH_TAIL)?, None);
+    assert!(rt; first_difference(rt.alloc(), &HEXAGON_WITH_TAIL)? == None);
     Ok(())
 }
 
 #[test]
 fn a_square_is_left_row_by_row(rt: HostRuntime) -> Result<(), Fail> {
-    assert_eq!(rt; first_difference(rt.alloc(), &SQUARE)?, None);
+    assert!(rt; first_difference(rt.alloc(), &SQUARE)? == None);
     Ok(())
 }

@@ -133,7 +133,7 @@ impl Reference {
     /// The meter's numbers are those of the plain count, and its world is that of `Serial`.
     pub fn check<R: Abort, D: Decider>(&self, rt: &R, meter: &Meter<'_, D>) {
         assert!(rt; meter.world().same(self.serial.world()));
-        assert_eq!(rt; numbers(meter), self.history.rounds());
+        assert!(rt; numbers(meter) == self.history.rounds());
     }
 }
 
@@ -278,7 +278,7 @@ fn feed_again<R: Abort, D: Decider>(rt: &R, meter: &mut Meter<'_, D>, entry: &En
     if entry.bot < meter.world().bots() {
         match meter.feed(entry) {
             Ok(()) => panic!(rt; "a step"),
-            Err(differs) => assert_eq!(rt; differs.place, 1),
+            Err(differs) => assert!(rt; differs.place == 1),
         }
     }
 }
@@ -296,7 +296,7 @@ fn check_again<R: Abort, D: Decider>(
     feed(meter, &entry)?;
     let _before = decider.taken();
     feed_again(rt, meter, &entry);
-    assert_eq!(rt; (decider.taken(), numbers(meter)), (1, (1, 1)));
+    assert!(rt; (decider.taken(), numbers(meter)) == (1, (1, 1)));
     assert!(rt; meter.world().same(serial.world()));
     Ok(())
 }

@@ -111,7 +111,7 @@ fn workers_of_a_sample_meet_and_come_to_the_gate(rt: HostRuntime) -> Result<(), 
         &mut out,
         &gate,
     );
-    assert_eq!(rt; status, Status::Done);
+    assert!(rt; status == Status::Done);
     assert!(rt; gate.met());
     let marks = &report.ok_or("a report")?.turns;
     let mut calls: u64 = 0;
@@ -122,6 +122,6 @@ fn workers_of_a_sample_meet_and_come_to_the_gate(rt: HostRuntime) -> Result<(), 
             }
         }
     }
-    assert_eq!(rt; gate.calls.load(Ordering::SeqCst), calls);
+    assert!(rt; gate.calls.load(Ordering::SeqCst) == calls);
     Ok(())
 }

@@ -206,7 +206,7 @@ fn write_by<R: Abort + Threads + Wait + Sync>(
 ) -> Result<usize, Fail> {
     let words = words(alloc, &[word])?;
     let ended = run_text(rt, alloc, words.as_slice(), document.as_bytes(), out);
-    assert_eq!(rt; ended.status, Status::Done);
+    assert!(rt; ended.status == Status::Done);
     let report = ended.report.ok_or("a report")?;
     Ok(report.journal.entries().len())
 }

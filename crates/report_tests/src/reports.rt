@@ -113,7 +113,7 @@ fn check_sixteen<R: Abort + Threads + Wait + Sync>(
             *least <= entries && entries <= *most,
             "{entries} by {word}"
         );
-        assert_eq!(rt; report.turns.callers(), 16);
+        assert!(rt; report.turns.callers() == 16);
     }
     Ok(())
 }
@@ -156,12 +156,12 @@ fn check_row<R: Abort + Threads + Wait + Sync>(
     document: &str,
 ) -> Result<(), Fail> {
     let replayed = run_and_replay(rt, alloc, word, document, &NoGate)?;
-    assert_eq!(rt; replayed.report.turns.callers(), 4);
+    assert!(rt; replayed.report.turns.callers() == 4);
     let words = words(alloc, &["measure"])?;
     let mut out = SureSink::new(alloc, 4096)?;
     let whole = replayed.whole.as_slice();
     let ended = run_text(rt, alloc, words.as_slice(), whole, &mut out);
-    assert_eq!(rt; ended.status, Status::Done);
+    assert!(rt; ended.status == Status::Done);
     let text = "bots 100\nconnected yes\n";
     assert!(rt; out.bytes().starts_with(text.as_bytes()));
     Ok(())

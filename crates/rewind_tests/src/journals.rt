@@ -175,6 +175,6 @@ fn each_place_of_a_hexagon_is_reached(rt: HostRuntime) -> Result<(), Fail> {
 fn each_place_of_a_line_is_reached(rt: HostRuntime) -> Result<(), Fail> {
     let runner = Runner::new(Shipped::Line.program(rt.alloc())?);
     let start = world_for(rt.alloc(), &runner, 8, &SCATTERED)?;
-    assert_eq!(rt; check_run(rt.alloc(), &runner, start, 16)?, 72);
+    assert!(rt; check_run(rt.alloc(), &runner, start, 16)? == 72);
     Ok(())
 }

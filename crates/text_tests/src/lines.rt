@@ -96,7 +96,7 @@ fn numbers_are_put_as_they_are_copied(rt: HostRuntime) -> Result<(), Fail> {
     }
     let put = put.text();
     let copied = copied.text();
-    assert_eq!(rt; put.bytes(), copied.bytes());
+    assert!(rt; put.bytes() == copied.bytes());
     Ok(())
 }
 
@@ -111,6 +111,6 @@ fn a_section_of_words_and_numbers_is_printed(rt: HostRuntime) -> Result<(), Fail
     lines.end()?;
     lines.close_section()?;
     let text = lines.text();
-    assert_eq!(rt; text.bytes(), b"shape\narea -4096 0 +\nend\n".as_slice());
+    assert!(rt; text.bytes() == b"shape\narea -4096 0 +\nend\n".as_slice());
     Ok(())
 }

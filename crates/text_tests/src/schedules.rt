@@ -43,17 +43,16 @@ type Fault = (&'static str, u32, RefusalKind);
 /// What each of two lists has of its turns.
 fn expect_two(rt: &impl Abort, lists: &Lists) {
     assert!(rt; lists.callers() == 2);
-    assert_eq!(rt; lists.turns(), 5);
-    assert_eq!(rt;
+    assert!(rt; lists.turns() == 5);
+    assert!(rt;
         [
             lists.bot(0, 0),
             lists.bot(0, 1),
             lists.bot(0, 2),
             lists.bot(0, 3)
-        ],
-        [2, 0, 1, 2]
+        ] == [2, 0, 1, 2]
     );
-    assert_eq!(rt; lists.bot(1, 4), 1);
+    assert!(rt; lists.bot(1, 4) == 1);
 }
 
 #[test]
@@ -61,7 +60,7 @@ fn lists_are_read(rt: HostRuntime) -> Result<(), Fail> {
     let none = lists_in(rt.alloc(), b"lists turns 65536 end", 0)
         .ok()
         .ok_or("no list")?;
-    assert_eq!(rt; (none.callers(), none.turns()), (0, 65_536));
+    assert!(rt; (none.callers(), none.turns()) == (0, 65_536));
     let text = b"lists # of two\nturns 0005\nlist 2 0\n1\nlist 01 end";
     let two = lists_in(rt.alloc(), text, 3).ok().ok_or("two lists")?;
     expect_two(&rt, &two);
@@ -102,7 +101,7 @@ static LIST_FAULTS: [Fault; 27] = [
 fn are_no_lists(rt: &impl Abort, alloc: Global, table: &[Fault]) {
     for (text, line, kind) in table {
         let found = lists_in(alloc, text.as_bytes(), 3).err();
-        assert_eq!(rt; found, at(*line, *kind), "{text}");
+        assert!(rt; found == at(*line, *kind), "{text}");
     }
 }
 
@@ -133,12 +132,9 @@ fn there_are_at_most_16_lists(rt: HostRuntime) -> Result<(), Fail> {
     let lists = lists_in(rt.alloc(), most.bytes(), 1)
         .ok()
         .ok_or("16 lists")?;
-    assert_eq!(rt; lists.callers(), 16);
+    assert!(rt; lists.callers() == 16);
     let more = many_lists(rt.alloc(), 0, 17)?;
-    assert_eq!(rt;
-        lists_in(rt.alloc(), more.bytes(), 1).err(),
-        at(19, TooMany)
-    );
+    assert!(rt; lists_in(rt.alloc(), more.bytes(), 1).err() == at(19, TooMany));
     Ok(())
 }
 
@@ -158,9 +154,8 @@ fn have_turns(rt: &impl Abort, alloc: Global, table: &[(u32, u32, u32)]) -> Resu
         let most = many_lists(alloc, *turns, *lists)?;
         assert!(rt; lists_in(alloc, most.bytes(), 1).is_ok(), "{turns}");
         let more = many_lists(alloc, *turns, *lists + 1)?;
-        assert_eq!(rt;
-            lists_in(alloc, more.bytes(), 1).err(),
-            at(*line, TooMany),
+        assert!(rt;
+            lists_in(alloc, more.bytes(), 1).err() == at(*line, TooMany),
             "{turns}"
         );
     }
@@ -203,7 +198,7 @@ fn are_too_long(
 ) -> Result<(), AllocError> {
     for (ids, last, line, kind) in table {
         let text = long_list(alloc, *ids, *last)?;
-        assert_eq!(rt; lists_in(alloc, text.bytes(), 3).err(), at(*line, *kind));
+        assert!(rt; lists_in(alloc, text.bytes(), 3).err() == at(*line, *kind));
     }
     Ok(())
 }
@@ -215,7 +210,7 @@ fn a_list_has_at_most_4096_ids(rt: HostRuntime) -> Result<(), Fail> {
         .ok()
         .ok_or("4,096 ids")?;
     assert!(rt; lists.callers() == 1);
-    assert_eq!(rt; [lists.bot(0, 4095), lists.bot(0, 4096)], [2, 0]);
+    assert!(rt; [lists.bot(0, 4095), lists.bot(0, 4096)] == [2, 0]);
     are_too_long(&rt, rt.alloc(), &LONG_LISTS)?;
     Ok(())
 }
@@ -294,7 +289,7 @@ static SCHEDULE_FAULTS: [Fault; 25] = [
 fn are_no_schedules(rt: &impl Abort, alloc: Global, table: &[Fault]) {
     for (text, line, kind) in table {
         let found = schedule_in(alloc, text.as_bytes(), 2).err();
-        assert_eq!(rt; found, at(*line, *kind), "{text}");
+        assert!(rt; found == at(*line, *kind), "{text}");
     }
 }
 
@@ -307,21 +302,21 @@ fn schedules_are_refused_at_their_first_fault(rt: HostRuntime) {
 fn a_million_steps_are_read(rt: HostRuntime) -> Result<(), Fail> {
     let text = b"schedule 0 times 999998 1 times 1 1 end";
     let all = schedule_in(rt.alloc(), text, 2).ok().ok_or("a million")?;
-    assert_eq!(rt; all.steps(), 1_000_000);
-    assert_eq!(rt; all.step(999_997), 0);
-    assert_eq!(rt; all.step(999_998), 1);
-    assert_eq!(rt; all.step(999_999), 1);
+    assert!(rt; all.steps() == 1_000_000);
+    assert!(rt; all.step(999_997) == 0);
+    assert!(rt; all.step(999_998) == 1);
+    assert!(rt; all.step(999_999) == 1);
     Ok(())
 }
 
 #[test]
 fn a_caller_makes_no_step_past_a_million(rt: HostRuntime) {
     let text = b"schedule 0 times 1000000\n2 times 0 end";
-    assert_eq!(rt; schedule_in(rt.alloc(), text, 2).err(), at(2, TooMany));
+    assert!(rt; schedule_in(rt.alloc(), text, 2).err() == at(2, TooMany));
 }
 
 #[test]
 fn times_makes_no_step_past_a_million(rt: HostRuntime) {
     let text = b"schedule 0 times 999999 1\ntimes\n2 end";
-    assert_eq!(rt; schedule_in(rt.alloc(), text, 2).err(), at(3, TooMany));
+    assert!(rt; schedule_in(rt.alloc(), text, 2).err() == at(3, TooMany));
 }

@@ -127,15 +127,14 @@ fn shapes_of_runs_are_read_and_printed_again(rt: HostRuntime) {
 
 /// Two amoebots, the first one expanded.
 fn expect_two(rt: &impl Abort, world: &World) {
-    assert_eq!(rt; world.bots(), 2);
-    assert_eq!(rt;
+    assert!(rt; world.bots() == 2);
+    assert!(rt;
         [
             world.occupant(Node { x: 3, y: -1 }),
             world.occupant(Node { x: 2, y: -1 }),
             world.occupant(Node { x: 0, y: 5 }),
             world.occupant(Node { x: 1, y: 5 })
-        ],
-        [Some(0), Some(0), Some(1), None]
+        ] == [Some(0), Some(0), Some(1), None]
     );
 }
 
@@ -157,12 +156,12 @@ fn a_shape_is_read_as_it_is_written(rt: HostRuntime) -> Result<(), Fail> {
     let printed = print_shape(rt.alloc(), "final", &world, 1)
         .ok()
         .ok_or("no text")?;
-    assert_eq!(rt;
-        printed.bytes(),
-        b"final\narea 0 -2 8 8\nbot 3 -1 2 -1 5 - 3\nbot 0 5 0 5 0 + 0\nend\n".as_slice()
+    assert!(rt;
+        printed.bytes()
+            == b"final\narea 0 -2 8 8\nbot 3 -1 2 -1 5 - 3\nbot 0 5 0 5 0 + 0\nend\n".as_slice()
     );
     assert!(rt; is_last(rt.alloc(), printed.bytes(), &world));
-    assert_eq!(rt; read_last(rt.alloc(), text).err(), at(1, Unexpected));
+    assert!(rt; read_last(rt.alloc(), text).err() == at(1, Unexpected));
     Ok(())
 }
 
@@ -298,7 +297,7 @@ static FAULTS: [Fault; 44] = [
 fn are_refused(rt: &impl Abort, alloc: Global, table: &[Fault]) {
     for (text, line, kind) in table {
         let found = read_text(alloc, text.as_bytes(), 1, UP_TO_3).err();
-        assert_eq!(rt; found, at(*line, *kind), "{text}");
+        assert!(rt; found == at(*line, *kind), "{text}");
     }
 }
 
@@ -344,11 +343,8 @@ fn a_shape_has_at_most_4096_amoebots(rt: HostRuntime) -> Result<(), Fail> {
     let world = read_text(rt.alloc(), full.bytes(), 0, [0; 8])
         .ok()
         .ok_or("not read")?;
-    assert_eq!(rt; world.bots(), 4096);
+    assert!(rt; world.bots() == 4096);
     let longer = long_text(rt.alloc(), 4097)?;
-    assert_eq!(rt;
-        read_text(rt.alloc(), longer.bytes(), 0, [0; 8]).err(),
-        at(4099, TooMany)
-    );
+    assert!(rt; read_text(rt.alloc(), longer.bytes(), 0, [0; 8]).err() == at(4099, TooMany));
     Ok(())
 }

@@ -58,9 +58,9 @@ pub fn turn_of<R: Wait, D: Decider, G: Gate>(
 /// The entries are of these callers, turns and amoebots, and each sets variable 0 of its amoebot.
 pub fn are_entries(rt: &impl Abort, journal: &Journal, expected: &[(u8, u32, u16)]) {
     let entries = journal.entries();
-    assert_eq!(rt; entries.len(), expected.len());
+    assert!(rt; entries.len() == expected.len());
     for (entry, turn) in entries.iter().zip(expected) {
-        assert_eq!(rt; (entry.caller, entry.turn, entry.bot), *turn);
-        assert_eq!(rt; (entry.action, entry.patch.triples().len()), (0, 1));
+        assert!(rt; (entry.caller, entry.turn, entry.bot) == *turn);
+        assert!(rt; (entry.action, entry.patch.triples().len()) == (0, 1));
     }
 }

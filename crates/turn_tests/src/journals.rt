@@ -56,10 +56,7 @@ fn stored(
     ensures { IsOf field.now result }
 {
     let (settled, receipt) = store(taken, field);
-    assert_eq!(rt;
-        (receipt.caller(), receipt.turn(), receipt.place()),
-        (caller, 0, place)
-    );
+    assert!(rt; (receipt.caller(), receipt.turn(), receipt.place()) == (caller, 0, place));
     settled
 }
 
@@ -83,7 +80,7 @@ fn take_turns(
     let taken = taken_by(field, second, second_change)?;
     let zero = release_settled(settled, field);
     let one = release_settled(stored(rt, field, taken, 1, 1), field);
-    assert_eq!(rt; (zero.next_turn(), one.next_turn()), (1, 1));
+    assert!(rt; (zero.next_turn(), one.next_turn()) == (1, 1));
     Ok(())
 }
 

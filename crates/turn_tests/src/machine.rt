@@ -53,7 +53,7 @@ pub fn is_marked(rt: &impl Abort, expected: &Marks, answer: &Turn) -> Result<(),
     if caller >= expected.callers() || turn >= expected.count(caller) {
         return Err(Fail::from("no mark"));
     }
-    assert_eq!(rt; answer.mark(), expected.mark(caller, turn));
+    assert!(rt; answer.mark() == expected.mark(caller, turn));
     Ok(())
 }
 
@@ -61,20 +61,16 @@ pub fn is_marked(rt: &impl Abort, expected: &Marks, answer: &Turn) -> Result<(),
 pub fn is_left(rt: &impl Abort, report: &Report, last: &World, journal: &Journal) {
     assert!(rt; last.same(&report.world));
     assert!(rt; journal.first().same(report.journal.first()));
-    assert_eq!(rt; journal.entries().len(), report.journal.entries().len());
+    assert!(rt; journal.entries().len() == report.journal.entries().len());
     for (entry, expected) in journal.entries().iter().zip(report.journal.entries()) {
         is_same(rt, entry, expected);
     }
 }
 
 fn is_same(rt: &impl Abort, entry: &Entry, expected: &Entry) {
-    assert_eq!(rt;
-        (entry.caller, entry.turn, entry.bot),
-        (expected.caller, expected.turn, expected.bot)
+    assert!(rt;
+        (entry.caller, entry.turn, entry.bot) == (expected.caller, expected.turn, expected.bot)
     );
-    assert_eq!(rt;
-        (entry.action, entry.moved),
-        (expected.action, expected.moved)
-    );
+    assert!(rt; (entry.action, entry.moved) == (expected.action, expected.moved));
     assert!(rt; entry.patch.triples() == expected.patch.triples());
 }

@@ -116,8 +116,8 @@ fn check_turns(rt: &impl Abort, worked: &Worked) -> Result<(), Fail>
     for caller in 0..marks.callers() {
         for turn in 0..marks.count(caller) {
             let answer = worked.turns.turn(caller, turn);
-            assert_eq!(rt; (answer.caller(), answer.turn()), (caller, turn));
-            assert_eq!(rt; answer.mark(), marks.mark(caller, turn));
+            assert!(rt; (answer.caller(), answer.turn()) == (caller, turn));
+            assert!(rt; answer.mark() == marks.mark(caller, turn));
         }
     }
     Ok(())
@@ -131,8 +131,8 @@ fn check_tickets(rt: &impl Abort, worked: &TicketWorked) -> Result<(), Fail>
     for caller in 0..marks.callers() {
         for turn in 0..marks.count(caller) {
             let answer = worked.turns.turn(caller, turn);
-            assert_eq!(rt; (answer.caller(), answer.turn()), (caller, turn));
-            assert_eq!(rt; answer.mark(), marks.mark(caller, turn));
+            assert!(rt; (answer.caller(), answer.turn()) == (caller, turn));
+            assert!(rt; answer.mark() == marks.mark(caller, turn));
         }
     }
     Ok(())

@@ -66,6 +66,6 @@ fn each_seat_is_given_once(rt: HostRuntime) -> Result<(), Fail> {
     let lists = lists_of(rt.alloc(), 2, &world, &[&[0, 1], &[2, 3]])?;
     let (_field, mut seats) = field_of(rt.alloc(), world, &lists)?;
     let given = seats_given(&mut seats);
-    assert_eq!(rt; given, [true, true, false, false]);
+    assert!(rt; given == [true, true, false, false]);
     Ok(())
 }

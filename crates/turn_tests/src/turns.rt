@@ -35,7 +35,7 @@ fn marked<R: Wait + Abort, D: Decider, G: Gate>(
     ensures same { IfOk result (λ after. number_in after ≡ number_in seat) }
 {
     let (after, answer) = turn_of(rt, field, lists, gate, seat)?;
-    assert_eq!(rt; answer.mark(), mark);
+    assert!(rt; answer.mark() == mark);
     is_marked(rt, expected, &answer)?;
     Ok(after)
 }
@@ -75,10 +75,7 @@ fn committed<R: Wait + Abort>(
     ensures same { number_in result ≡ number_in claimed }
 {
     let (settled, receipt) = commit(rt, field, claimed, change);
-    assert_eq!(rt;
-        (receipt.caller(), receipt.turn(), receipt.place()),
-        (0, 0, 0)
-    );
+    assert!(rt; (receipt.caller(), receipt.turn(), receipt.place()) == (0, 0, 0));
     release_settled(settled, field)
 }
 
@@ -107,7 +104,7 @@ fn first_inside<R: Wait + Abort>(
     };
     let (claimed, change) = decided(field, lists, zero)?;
     let one = marked(rt, field, lists, expected, &gate, one, busy)?;
-    assert_eq!(rt; gate.calls(), 0);
+    assert!(rt; gate.calls() == 0);
     Ok((committed(rt, field, claimed, change), one))
 }
 
@@ -131,8 +128,8 @@ fn inside<R: Wait + Abort>(
     let marks = (Mark::Done { place: 1 }, Mark::Idle { place: 2 });
     let (zero, one) = first_inside(rt, field, lists, expected, zero, one)?;
     let (one, zero) = one_each(rt, field, lists, expected, &gate, (one, zero), marks)?;
-    assert_eq!(rt; gate.calls(), 2);
-    assert_eq!(rt; (zero.next_turn(), one.next_turn()), (2, 2));
+    assert!(rt; gate.calls() == 2);
+    assert!(rt; (zero.next_turn(), one.next_turn()) == (2, 2));
     Ok((zero, one))
 }
 
@@ -215,7 +212,7 @@ fn fails_twice<R: Wait + Abort>(
     };
     let seat = marked(rt, field, lists, expected, &gate, seat, failed)?;
     let seat = marked(rt, field, lists, expected, &gate, seat, failed)?;
-    assert_eq!(rt; (seat.next_turn(), gate.calls()), (2, 2));
+    assert!(rt; (seat.next_turn(), gate.calls()) == (2, 2));
     Ok(())
 }
 

@@ -17,11 +17,11 @@ fn of_the_64_rings_these_31_are_one_arc(rt: HostRuntime) {
         for i in 0..6 {
             ring[i] = (number >> i) & 1 == 1;
         }
-        assert_eq!(rt; one_arc(ring), ARCS.contains(&number), "ring {number}");
+        assert!(rt; one_arc(ring) == ARCS.contains(&number), "ring {number}");
     }
 }
 
 #[test]
 fn opposite_neighbours_are_two_arcs(rt: HostRuntime) {
-    assert_eq!(rt; one_arc([true, false, false, true, false, false]), false);
+    assert!(rt; one_arc([true, false, false, true, false, false]) == false);
 }

@@ -74,8 +74,8 @@ fn wrong(way: Mistake) -> PlainEntry
 
 /// What becomes of the cells of an amoebot that expands to the right.
 fn expect_expansion(rt: &impl Abort, entry: &Entry) {
-    assert_eq!(rt; (entry.caller, entry.turn, entry.bot), (4, 7, 0));
-    assert_eq!(rt; (entry.action, entry.moved), (0, Moved::Expand(RIGHT)));
+    assert!(rt; (entry.caller, entry.turn, entry.bot) == (4, 7, 0));
+    assert!(rt; (entry.action, entry.moved) == (0, Moved::Expand(RIGHT)));
     let cells = [
         (
             CellName::Spot(node(3, 3)),
@@ -88,7 +88,7 @@ fn expect_expansion(rt: &impl Abort, entry: &Entry) {
             Cell::Body(spread((3, 3), (2, 3), 0)),
         ),
     ];
-    assert_eq!(rt; entry.patch.triples(), cells.as_slice());
+    assert!(rt; entry.patch.triples() == cells.as_slice());
 }
 
 /// Whether a world is that of this amoebot alone.

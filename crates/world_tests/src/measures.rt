@@ -91,8 +91,8 @@ fn search(
     hexagon: bool,
     name: &str,
 ) -> Result<(), Fail> {
-    assert_eq!(rt; is_connected(alloc, world)?, connected, "{name}");
-    assert_eq!(rt; is_hexagon(alloc, world)?, hexagon, "{name}");
+    assert!(rt; is_connected(alloc, world)? == connected, "{name}");
+    assert!(rt; is_hexagon(alloc, world)? == hexagon, "{name}");
     Ok(())
 }
 
@@ -105,12 +105,14 @@ fn try_all(
     hexagon: bool,
     name: &str,
 ) -> Result<(), Fail> {
-    assert_eq!(rt;
-        plain_shapes::is_connected(alloc, world)?,
-        connected,
+    assert!(rt;
+        plain_shapes::is_connected(alloc, world)? == connected,
         "{name}"
     );
-    assert_eq!(rt; plain_shapes::is_hexagon(alloc, world)?, hexagon, "{name}");
+    assert!(rt;
+        plain_shapes::is_hexagon(alloc, world)? == hexagon,
+        "{name}"
+    );
     Ok(())
 }
 
@@ -220,7 +222,7 @@ fn large_shapes() -> [(Large, u16, bool, bool, &'static str); 6] {
 fn shapes_of_4096_nodes_are_measured(rt: HostRuntime) -> Result<(), Fail> {
     for (large, bots, connected, hexagon, name) in large_shapes() {
         let world = large.world(rt.alloc())?;
-        assert_eq!(rt; world.bots(), bots, "{name}");
+        assert!(rt; world.bots() == bots, "{name}");
         search(&rt, rt.alloc(), &world, connected, hexagon, name)?;
     }
     Ok(())
@@ -244,9 +246,9 @@ fn values_are_counted_to_the_last_amoebot(rt: HostRuntime) -> Result<(), Fail> {
         bots.push(bot(node, node, value))?;
     }
     let world = world_of(rt.alloc(), area, bots.as_slice())?;
-    assert_eq!(rt; count_value(&world, 7, 9), 2);
-    assert_eq!(rt; count_value(&world, 7, 4), 1);
-    assert_eq!(rt; count_value(&world, 7, 1), 0);
-    assert_eq!(rt; count_value(&world, 0, 0), 4);
+    assert!(rt; count_value(&world, 7, 9) == 2);
+    assert!(rt; count_value(&world, 7, 4) == 1);
+    assert!(rt; count_value(&world, 7, 1) == 0);
+    assert!(rt; count_value(&world, 0, 0) == 4);
     Ok(())
 }

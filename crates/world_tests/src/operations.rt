@@ -132,7 +132,7 @@ fn expect_changes(rt: &impl Abort, found: &Found, moved: Moved, cells: &[Triple]
     let patch = activation(found, &[], moved, false).ok();
     assert!(rt; patch.is_some());
     if let Some(patch) = patch {
-        assert_eq!(rt; patch.triples(), cells);
+        assert!(rt; patch.triples() == cells);
     }
 }
 
@@ -145,7 +145,7 @@ fn failure(found: &Found, moved: Moved, guard: bool) -> Option<Failure> {
 fn writes_are_undone_with_a_movement_that_fails(rt: HostRuntime) -> Result<(), Fail> {
     let shown = found(rt.alloc(), &[bot((2, 3), (2, 3)), bot((3, 3), (3, 3))])?;
     let failed = activation(&shown, &[(None, 2)], Moved::Expand(head(0)), false).err();
-    assert_eq!(rt; failed, Some(Failure::Occupied));
+    assert!(rt; failed == Some(Failure::Occupied));
     Ok(())
 }
 
@@ -177,7 +177,7 @@ fn a_pull_hands_a_node_to_a_contracted_neighbour(rt: HostRuntime) -> Result<(), 
 fn the_guard_holds_a_node_between_two(rt: HostRuntime) -> Result<(), Fail> {
     let shown = found(rt.alloc(), &[bot((3, 3), (2, 3)), bot((1, 3), (1, 3))])?;
     let leaves = Moved::Contract(End::Tail);
-    assert_eq!(rt; failure(&shown, leaves, true), Some(Failure::WouldSplit));
+    assert!(rt; failure(&shown, leaves, true) == Some(Failure::WouldSplit));
     let cells = [
         spot((2, 3), Some(0), None),
         body(0, bot((3, 3), (2, 3)), bot((3, 3), (3, 3))),
@@ -192,15 +192,12 @@ fn two_ports_lead_to_one_neighbour(rt: HostRuntime) -> Result<(), Fail> {
     let shown = found(rt.alloc(), &[bot((3, 3), (2, 3)), other])?;
     let mut site = Site::new(&shown);
     site.write(Some(head(2)), 0, 1)?;
-    assert_eq!(rt; site.read(Some(tail(1)), 0)?, 1);
-    assert_eq!(rt; site.peer(head(2))?.dir, 5);
-    assert_eq!(rt; site.peer(tail(1))?.dir, 4);
+    assert!(rt; site.read(Some(tail(1)), 0)? == 1);
+    assert!(rt; site.peer(head(2))?.dir == 5);
+    assert!(rt; site.peer(tail(1))?.dir == 4);
     let writes = [(Some(head(2)), 1), (Some(tail(1)), 2)];
     let patch = activation(&shown, &writes, Moved::None, false)?;
-    assert_eq!(rt;
-        patch.triples(),
-        [body(1, other, valued(other, 2))].as_slice()
-    );
+    assert!(rt; patch.triples() == [body(1, other, valued(other, 2))].as_slice());
     Ok(())
 }
 
@@ -209,7 +206,7 @@ fn what_stays_as_it_was_found_is_not_listed(rt: HostRuntime) -> Result<(), Fail>
     let shown = found(rt.alloc(), &[bot((3, 3), (3, 3)), bot((2, 4), (2, 4))])?;
     let there_and_back = [(None, 3), (Some(head(2)), 0), (None, 0)];
     let patch = activation(&shown, &there_and_back, Moved::None, false)?;
-    assert_eq!(rt; patch.triples().len(), 0);
+    assert!(rt; patch.triples().len() == 0);
     Ok(())
 }
 
@@ -228,8 +225,8 @@ fn a_neighbour_is_expanded_across_two_ports(rt: HostRuntime) -> Result<(), Fail>
         at_head: false,
         dir: 4,
     };
-    assert_eq!(rt; site.peer(head(0))?, at_head);
-    assert_eq!(rt; site.peer(head(1))?, at_tail);
+    assert!(rt; site.peer(head(0))? == at_head);
+    assert!(rt; site.peer(head(1))? == at_tail);
     let cells = [
         spot((3, 4), Some(1), Some(0)),
         body(0, bot((3, 3), (3, 3)), bot((3, 4), (3, 3))),
@@ -357,13 +354,10 @@ fn a_contracted_amoebot_fails_by_the_first_condition(rt: HostRuntime) -> Result<
     )?;
     let mut site = Site::new(&shown);
     for (call, end, dir, failure) in OF_CONTRACTED {
-        assert_eq!(rt;
-            call_failure(&mut site, call, Port { end, dir }),
-            Some(failure)
-        );
+        assert!(rt; call_failure(&mut site, call, Port { end, dir }) == Some(failure));
     }
-    assert_eq!(rt; site.contract(End::Head, true), Err(Failure::NotExpanded));
-    assert_eq!(rt; site.write(None, 0, 4), Err(Failure::OutOfRange));
+    assert!(rt; site.contract(End::Head, true) == Err(Failure::NotExpanded));
+    assert!(rt; site.write(None, 0, 4) == Err(Failure::OutOfRange));
     Ok(())
 }
 
@@ -379,8 +373,8 @@ fn outside_the_area_nothing_is_there_and_nothing_is_free(rt: HostRuntime) -> Res
         (4, true),
         (5, false),
     ] {
-        assert_eq!(rt; site.connected(head(dir)), Ok(false));
-        assert_eq!(rt; site.is_free(head(dir)), Ok(is_free));
+        assert!(rt; site.connected(head(dir)) == Ok(false));
+        assert!(rt; site.is_free(head(dir)) == Ok(is_free));
     }
     Ok(())
 }
@@ -414,12 +408,9 @@ fn an_expanded_amoebot_fails_by_the_first_condition(rt: HostRuntime) -> Result<(
     )?;
     let mut site = Site::new(&shown);
     for (call, end, dir, failure) in OF_EXPANDED {
-        assert_eq!(rt;
-            call_failure(&mut site, call, Port { end, dir }),
-            Some(failure)
-        );
+        assert!(rt; call_failure(&mut site, call, Port { end, dir }) == Some(failure));
     }
-    assert_eq!(rt; site.contract(End::Tail, true), Err(Failure::WouldSplit));
+    assert!(rt; site.contract(End::Tail, true) == Err(Failure::WouldSplit));
     Ok(())
 }
 
@@ -427,13 +418,10 @@ fn an_expanded_amoebot_fails_by_the_first_condition(rt: HostRuntime) -> Result<(
 fn nodes_outside_the_area_belong_to_no_arc(rt: HostRuntime) -> Result<(), Fail> {
     let (own, beyond) = (bot((0, 0), (1, 0)), bot((2, 0), (2, 0)));
     let apart = found(rt.alloc(), &[own, beyond])?;
-    assert_eq!(rt;
-        failure(&apart, Moved::Contract(End::Tail), true),
-        Some(Failure::WouldSplit)
-    );
-    assert_eq!(rt; failure(&apart, Moved::Contract(End::Head), true), None);
+    assert!(rt; failure(&apart, Moved::Contract(End::Tail), true) == Some(Failure::WouldSplit));
+    assert!(rt; failure(&apart, Moved::Contract(End::Head), true) == None);
     let joined = found(rt.alloc(), &[own, beyond, bot((1, 1), (0, 1))])?;
-    assert_eq!(rt; failure(&joined, Moved::Contract(End::Tail), true), None);
+    assert!(rt; failure(&joined, Moved::Contract(End::Tail), true) == None);
     Ok(())
 }
 
@@ -445,12 +433,12 @@ fn answers_alike(rt: &impl Abort, found: &Found) {
     assert!(rt; searching.expand(tail(6)).is_err());
     for dir in 0..8u8 {
         for port in [head(dir), tail(dir)].iter() {
-            assert_eq!(rt; site.connected(*port), searching.connected(*port));
-            assert_eq!(rt; site.is_free(*port), searching.is_free(*port));
-            assert_eq!(rt; site.read(Some(*port), 0), searching.read(Some(*port), 0));
+            assert!(rt; site.connected(*port) == searching.connected(*port));
+            assert!(rt; site.is_free(*port) == searching.is_free(*port));
+            assert!(rt; site.read(Some(*port), 0) == searching.read(Some(*port), 0));
         }
     }
-    assert_eq!(rt; site.read(None, 0), searching.read(None, 0));
+    assert!(rt; site.read(None, 0) == searching.read(None, 0));
 }
 
 #[test]

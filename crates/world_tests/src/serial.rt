@@ -144,9 +144,9 @@ fn a_failed_turn_leaves_the_world(rt: HostRuntime) -> Result<(), Fail> {
             Turned::Failed(Failure::Edge)
         )
     );
-    assert_eq!(rt; *serial.world().bot(0), alone);
+    assert!(rt; *serial.world().bot(0) == alone);
     let world = serial.into_world();
-    assert_eq!(rt; world.bots(), 1);
+    assert!(rt; world.bots() == 1);
     Ok(())
 }
 
@@ -195,11 +195,8 @@ fn entries_without_old_values_that_are_steps_agree(rt: HostRuntime) -> Result<()
 fn the_first_entry_that_is_no_step_is_told(rt: HostRuntime) -> Result<(), Fail> {
     for way in WAYS {
         for place in 0..3 {
-            assert_eq!(rt; place_of(rt.alloc(), way, place)?, Some(u32::from(place)));
-            assert_eq!(rt;
-                plain_place_of(rt.alloc(), way, place)?,
-                Some(u32::from(place))
-            );
+            assert!(rt; place_of(rt.alloc(), way, place)? == Some(u32::from(place)));
+            assert!(rt; plain_place_of(rt.alloc(), way, place)? == Some(u32::from(place)));
         }
     }
     Ok(())
@@ -210,8 +207,8 @@ fn the_first_entry_that_is_no_step_is_told(rt: HostRuntime) -> Result<(), Fail> 
 fn another_old_value_is_no_step(rt: HostRuntime) -> Result<(), Fail> {
     for place in 0..3 {
         let way = Mistake::OldValue;
-        assert_eq!(rt; place_of(rt.alloc(), way, place)?, Some(u32::from(place)));
-        assert_eq!(rt; plain_place_of(rt.alloc(), way, place)?, None);
+        assert!(rt; place_of(rt.alloc(), way, place)? == Some(u32::from(place)));
+        assert!(rt; plain_place_of(rt.alloc(), way, place)? == None);
     }
     Ok(())
 }

@@ -119,23 +119,11 @@ fn a_world_is_refused_for_its_first_fault(rt: HostRuntime) {
         mem: [2, 0, 0, 0, 0, 0, 0, 0],
         ..ALONE
     };
-    assert_eq!(rt;
-        refusal(rt.alloc(), ALONE, outside),
-        Some(WorldRefusal::OutOfBox(1))
-    );
-    assert_eq!(rt;
-        refusal(rt.alloc(), torn, ALONE),
-        Some(WorldRefusal::NotAdjacent(0))
-    );
-    assert_eq!(rt;
-        refusal(rt.alloc(), STRETCHED, ALONE),
-        Some(WorldRefusal::Overlap(1))
-    );
-    assert_eq!(rt;
-        refusal(rt.alloc(), high, outside),
-        Some(WorldRefusal::BadValue(0))
-    );
-    assert_eq!(rt; refusal(rt.alloc(), ALONE, BEHIND), None);
+    assert!(rt; refusal(rt.alloc(), ALONE, outside) == Some(WorldRefusal::OutOfBox(1)));
+    assert!(rt; refusal(rt.alloc(), torn, ALONE) == Some(WorldRefusal::NotAdjacent(0)));
+    assert!(rt; refusal(rt.alloc(), STRETCHED, ALONE) == Some(WorldRefusal::Overlap(1)));
+    assert!(rt; refusal(rt.alloc(), high, outside) == Some(WorldRefusal::BadValue(0)));
+    assert!(rt; refusal(rt.alloc(), ALONE, BEHIND) == None);
 }
 
 #[test]
@@ -145,23 +133,18 @@ fn a_walled_world_is_refused_for_its_first_fault(rt: HostRuntime) {
         head: Node { x: 4, y: 3 },
         ..ALONE
     };
-    assert_eq!(rt;
-        walled_refusal(rt.alloc(), &[NEXT, NEXT, outside], &[ALONE]),
-        Some(WorldRefusal::BadWall(1))
+    assert!(rt;
+        walled_refusal(rt.alloc(), &[NEXT, NEXT, outside], &[ALONE])
+            == Some(WorldRefusal::BadWall(1))
     );
-    assert_eq!(rt;
-        walled_refusal(rt.alloc(), &[HERE, outside], &[ALONE]),
-        Some(WorldRefusal::BadWall(1))
+    assert!(rt;
+        walled_refusal(rt.alloc(), &[HERE, outside], &[ALONE]) == Some(WorldRefusal::BadWall(1))
     );
-    assert_eq!(rt;
-        walled_refusal(rt.alloc(), &[HERE], &[torn]),
-        Some(WorldRefusal::NotAdjacent(0))
+    assert!(rt; walled_refusal(rt.alloc(), &[HERE], &[torn]) == Some(WorldRefusal::NotAdjacent(0)));
+    assert!(rt;
+        walled_refusal(rt.alloc(), &[HERE], &[BEHIND, STRETCHED]) == Some(WorldRefusal::OnWall(1))
     );
-    assert_eq!(rt;
-        walled_refusal(rt.alloc(), &[HERE], &[BEHIND, STRETCHED]),
-        Some(WorldRefusal::OnWall(1))
-    );
-    assert_eq!(rt; walled_refusal(rt.alloc(), &[NEXT], &[ALONE]), None);
+    assert!(rt; walled_refusal(rt.alloc(), &[NEXT], &[ALONE]) == None);
 }
 
 /// A copy of the world of these walls and of two amoebots. It is the same as that world.
@@ -179,30 +162,28 @@ fn walled_copy(alloc: Global, walls: &[Node]) -> Result<World, Fail>
 
 /// Which nodes are walls of a world.
 fn expect_walls(rt: &impl Abort, world: &World) {
-    assert_eq!(rt;
+    assert!(rt;
         [
             world.is_wall(NEXT),
             world.is_wall(HERE),
             world.is_wall(Node { x: 8, y: 3 })
-        ],
-        [true, false, false]
+        ] == [true, false, false]
     );
-    assert_eq!(rt; world.is_wall_number(63), true);
+    assert!(rt; world.is_wall_number(63) == true);
 }
 
 /// What the first amoebot is shown of its walls.
 fn expect_shown_walls(rt: &impl Abort, found: &Found) {
-    assert_eq!(rt; found.bot(), 0);
-    assert_eq!(rt;
+    assert!(rt; found.bot() == 0);
+    assert!(rt;
         [
             found.behind(port(End::Head, 0)),
             found.behind(port(End::Head, 1)),
             found.behind(port(End::Head, 3))
-        ],
-        [Behind::Wall, Behind::Empty, Behind::Bot(1)]
+        ] == [Behind::Wall, Behind::Empty, Behind::Bot(1)]
     );
-    assert_eq!(rt; [found.is_wall(NEXT), found.is_wall(FAR)], [true, false]);
-    assert_eq!(rt; (found.walls().len(), found.cells().len()), (1, 9));
+    assert!(rt; [found.is_wall(NEXT), found.is_wall(FAR)] == [true, false]);
+    assert!(rt; (found.walls().len(), found.cells().len()) == (1, 9));
 }
 
 #[test]
@@ -211,7 +192,7 @@ fn walls_stay(rt: HostRuntime) -> Result<(), Fail> {
     expect_walls(&rt, &copy);
     expect_shown_walls(&rt, &copy.found(0));
     let open = walled_copy(rt.alloc(), &[FAR])?;
-    assert_eq!(rt; copy.same(&open), false);
+    assert!(rt; copy.same(&open) == false);
     Ok(())
 }
 
@@ -231,27 +212,23 @@ fn copy_of(alloc: Global, bots: &[Bot]) -> Result<World, Fail>
 fn expect_three(rt: &impl Abort, world: &World)
     requires { length world.now.bots ≡ 3 }
 {
-    assert_eq!(rt; world.bots(), 3);
-    assert_eq!(rt; *world.bot(2), BEHIND);
-    assert_eq!(rt; world.occupant(HERE), Some(1));
+    assert!(rt; world.bots() == 3);
+    assert!(rt; *world.bot(2) == BEHIND);
+    assert!(rt; world.occupant(HERE) == Some(1));
 }
 
 /// What the second one of them is shown.
 fn expect_shown(rt: &impl Abort, found: &Found) {
-    assert_eq!(rt; (found.bot(), *found.own()), (1, STRETCHED));
-    assert_eq!(rt;
+    assert!(rt; (found.bot(), *found.own()) == (1, STRETCHED));
+    assert!(rt;
         [
             found.behind(port(End::Tail, 3)),
             found.behind(port(End::Tail, 2)),
             found.behind(port(End::Head, 3))
-        ],
-        [Behind::Bot(2), Behind::Empty, Behind::NoPort]
+        ] == [Behind::Bot(2), Behind::Empty, Behind::NoPort]
     );
-    assert_eq!(rt; found.cells().len(), 12);
-    assert_eq!(rt;
-        [found.body(2).copied(), found.body(0).copied()],
-        [Some(BEHIND), None]
-    );
+    assert!(rt; found.cells().len() == 12);
+    assert!(rt; [found.body(2).copied(), found.body(0).copied()] == [Some(BEHIND), None]);
 }
 
 #[test]
@@ -262,7 +239,7 @@ fn a_copy_shows_what_stands_round_an_amoebot(rt: HostRuntime) -> Result<(), Fail
     expect_shown(&rt, &found);
     let behind = found.occupant(Node { x: 1, y: 3 });
     let before = found.occupant(Node { x: 4, y: 3 });
-    assert_eq!(rt; [behind, before], [Some(2), None]);
+    assert!(rt; [behind, before] == [Some(2), None]);
     Ok(())
 }
 
@@ -306,18 +283,15 @@ fn expanded(alloc: Global, goal: &World) -> Result<World, Fail>
 /// The amoebot has both nodes.
 fn expect_stretched(rt: &impl Abort, world: &World) {
     assert!(rt; world.bots() == 1);
-    assert_eq!(rt; *world.bot(0), STRETCHED);
-    assert_eq!(rt;
-        [world.occupant(NEXT), world.occupant(HERE)],
-        [Some(0), Some(0)]
-    );
+    assert!(rt; *world.bot(0) == STRETCHED);
+    assert!(rt; [world.occupant(NEXT), world.occupant(HERE)] == [Some(0), Some(0)]);
 }
 
 #[test]
 fn an_expansion_is_applied(rt: HostRuntime) -> Result<(), Fail> {
     let goal = world_of(rt.alloc(), &[STRETCHED])?;
     let world = expanded(rt.alloc(), &goal)?;
-    assert_eq!(rt; world.same(&goal), true);
+    assert!(rt; world.same(&goal) == true);
     expect_stretched(&rt, &world);
     Ok(())
 }
@@ -336,8 +310,8 @@ fn entry_of(patch: Patch) -> Entry {
 
 #[test]
 fn a_patch_has_the_values_before_and_after(rt: HostRuntime) {
-    assert_eq!(rt; Patch::new().triples().len(), 0);
-    assert_eq!(rt; expansion().triples(), EXPANSION.as_slice());
+    assert!(rt; Patch::new().triples().len() == 0);
+    assert!(rt; expansion().triples() == EXPANSION.as_slice());
 }
 
 /// A patch of as many cells as there may be: a node and nine bodies.
@@ -357,27 +331,24 @@ fn full_patch() -> Patch {
 #[test]
 fn a_plain_entry_has_the_values_after(rt: HostRuntime) {
     let plain = entry_of(full_patch()).plain();
-    assert_eq!(rt;
-        (plain.caller, plain.turn, plain.bot, plain.action),
-        (3, 9, 7, 2)
-    );
-    assert_eq!(rt; plain.moved, Moved::Expand(port(End::Head, 4)));
+    assert!(rt; (plain.caller, plain.turn, plain.bot, plain.action) == (3, 9, 7, 2));
+    assert!(rt; plain.moved == Moved::Expand(port(End::Head, 4)));
     let pairs = plain.patch.pairs();
-    assert_eq!(rt; pairs.len(), 10);
-    assert_eq!(rt;
-        [pairs.first().copied(), pairs.last().copied()],
-        [
-            Some((CellName::Spot(NEXT), Cell::Spot(Some(0)))),
-            Some((CellName::Body(8), Cell::Body(STRETCHED)))
-        ]
+    assert!(rt; pairs.len() == 10);
+    assert!(rt;
+        [pairs.first().copied(), pairs.last().copied()]
+            == [
+                Some((CellName::Spot(NEXT), Cell::Spot(Some(0)))),
+                Some((CellName::Body(8), Cell::Body(STRETCHED)))
+            ]
     );
 }
 
 #[test]
 fn a_plain_entry_without_a_change_has_no_cells(rt: HostRuntime) {
     let plain = entry_of(Patch::new()).plain();
-    assert_eq!(rt; plain.caller, 3);
-    assert_eq!(rt; plain.patch.pairs().len(), 0);
+    assert!(rt; plain.caller == 3);
+    assert!(rt; plain.patch.pairs().len() == 0);
 }
 
 /// The zone of an amoebot at the edge of the area, with what its cells hold.
@@ -402,9 +373,9 @@ fn found_at_edge(world: &World) -> Found
 fn a_neighbourhood_is_made_of_its_cells(rt: HostRuntime) -> Result<(), Fail> {
     let world = world_of(rt.alloc(), &[AT_EDGE])?;
     let found = found_at_edge(&world);
-    assert_eq!(rt; *found.own(), AT_EDGE);
-    assert_eq!(rt; found.behind(port(End::Head, 0)), Behind::Edge);
-    assert_eq!(rt; (found.area(), found.maxes()), (world.area(), MAXES));
+    assert!(rt; *found.own() == AT_EDGE);
+    assert!(rt; found.behind(port(End::Head, 0)) == Behind::Edge);
+    assert!(rt; (found.area(), found.maxes()) == (world.area(), MAXES));
     Ok(())
 }
 

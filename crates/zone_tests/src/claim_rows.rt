@@ -57,7 +57,7 @@ fn refused_at(
         Ok(_) => Err(Fail::from("no cell is held")),
         Err((seat, refused)) => {
             is_refusal(rt, &refused, cell);
-            assert_eq!(rt; (seat.caller(), seat.next_turn()), (1, 1));
+            assert!(rt; (seat.caller(), seat.next_turn()) == (1, 1));
             Ok(seat)
         }
     }
@@ -65,23 +65,17 @@ fn refused_at(
 
 /// Caller 1 was refused in its first turn at this cell, by caller 0 in its first turn.
 fn is_refusal(rt: &impl Abort, refused: &Refused, cell: CellName) {
-    assert_eq!(rt;
-        (refused.caller(), refused.turn(), refused.place()),
-        (1, 0, 0)
-    );
-    assert_eq!(rt; refused.cell(), cell);
-    assert_eq!(rt;
-        (refused.by_caller(), refused.by_turn(), refused.by_bot()),
-        (0, 0, 0)
-    );
+    assert!(rt; (refused.caller(), refused.turn(), refused.place()) == (1, 0, 0));
+    assert!(rt; refused.cell() == cell);
+    assert!(rt; (refused.by_caller(), refused.by_turn(), refused.by_bot()) == (0, 0, 0));
 }
 
 /// What a claim of amoebot 0 found.
 fn is_found(rt: &impl Abort, claimed: &Claimed<Idler>) {
     let found = claimed.found();
-    assert_eq!(rt; found.bot(), 0);
-    assert_eq!(rt; *found.own(), standing(2, 3, 0));
-    assert_eq!(rt; found.body(1).copied(), Some(standing(3, 3, 0)));
+    assert!(rt; found.bot() == 0);
+    assert!(rt; *found.own() == standing(2, 3, 0));
+    assert!(rt; found.body(1).copied() == Some(standing(3, 3, 0)));
 }
 
 /// Caller 1 is refused while caller 0 holds its zone, and claims its own in its next turn, once caller 0 has released it.
@@ -102,11 +96,11 @@ fn takes_turns(
     is_found(rt, &claimed);
     let one = refused_at(rt, field, lists, one, CellName::Body(1))?;
     let zero = freed(rt, field, claimed, 0, 0);
-    assert_eq!(rt; (zero.caller(), zero.next_turn()), (0, 1));
+    assert!(rt; (zero.caller(), zero.next_turn()) == (0, 1));
     let claimed = claimed_whole(rt, field, lists, one, &ZONE_1)?;
-    assert_eq!(rt; claimed.found().body(0).copied(), Some(standing(2, 3, 0)));
+    assert!(rt; claimed.found().body(0).copied() == Some(standing(2, 3, 0)));
     let one = freed(rt, field, claimed, 1, 1);
-    assert_eq!(rt; (one.caller(), one.next_turn()), (1, 2));
+    assert!(rt; (one.caller(), one.next_turn()) == (1, 2));
     Ok((zero, one))
 }
 
@@ -156,7 +150,7 @@ fn a_zone_that_another_holds_is_refused_until_it_is_released(rt: HostRuntime) ->
     let (last, journal) = closed(&rt, field, &lists, seats)?;
     assert!(rt; last.same(&before));
     assert!(rt; journal.first().same(&before));
-    assert_eq!(rt; journal.entries().len(), 0);
+    assert!(rt; journal.entries().len() == 0);
     Ok(())
 }
 
@@ -179,9 +173,9 @@ fn refuses_at(
     let held = won(field, begun(field, lists, zero)?, &ZONE_0[..count])?;
     let _one = refused_at(rt, field, lists, one, cell)?;
     let held = won(field, held, &ZONE_0[count..])?;
-    assert_eq!(rt; held.count(), 9);
+    assert!(rt; held.count() == 9);
     let zero = freed(rt, field, whole(field, held)?, 0, 0);
-    assert_eq!(rt; (zero.caller(), zero.next_turn()), (0, 1));
+    assert!(rt; (zero.caller(), zero.next_turn()) == (0, 1));
     Ok(())
 }
 

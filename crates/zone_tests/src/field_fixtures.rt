@@ -117,10 +117,7 @@ pub fn freed(
     ensures same { number_in result ≡ number_in claimed }
 {
     let seen = place(&mut claimed, field);
-    assert_eq!(rt;
-        (seen.caller(), seen.turn(), seen.place()),
-        (caller, turn, 0)
-    );
+    assert!(rt; (seen.caller(), seen.turn(), seen.place()) == (caller, turn, 0));
     release(claimed, field)
 }
 
@@ -138,6 +135,6 @@ pub fn claimed_whole(
     ensures same { IfOk result (λ claimed. number_in claimed ≡ number_in seat) }
 {
     let held = won(field, begun(field, lists, seat)?, zone)?;
-    assert_eq!(rt; usize::from(held.count()), zone.len());
+    assert!(rt; usize::from(held.count()) == zone.len());
     whole(field, held)
 }

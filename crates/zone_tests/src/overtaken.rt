@@ -78,9 +78,9 @@ fn turn_done<D: Decider>(
         Err(_) => Err(Fail::from("the journal is taken")),
         Ok(taken) => {
             let (settled, receipt) = store(taken, field);
-            assert_eq!(rt; (receipt.caller(), receipt.place()), (0, 0));
+            assert!(rt; (receipt.caller(), receipt.place()) == (0, 0));
             let seat = release_settled(settled, field);
-            assert_eq!(rt; seat.next_turn(), 1);
+            assert!(rt; seat.next_turn() == 1);
             Ok(())
         }
     }
@@ -100,9 +100,9 @@ fn overtaken<D: Decider>(
     ensures { IfOk result (λ noted. IsOf field.now noted.claim) }
 {
     let held = won(field, begun(field, lists, one)?, &BEFORE)?;
-    assert_eq!(rt; field.peek_node(SHARED), Some(0));
+    assert!(rt; field.peek_node(SHARED) == Some(0));
     let noted = noted_at(field, held, SHARED)?;
-    assert_eq!(rt; (noted.occupant(), noted.stamp()), (None, 0));
+    assert!(rt; (noted.occupant(), noted.stamp()) == (None, 0));
     turn_done(rt, field, lists, zero)?;
     Ok(noted)
 }
@@ -116,9 +116,9 @@ fn wins_rest<D: Decider>(
 ) -> Result<(), Fail>
     requires { IsOf field.now held }
 {
-    assert_eq!(rt; held.count(), 6);
+    assert!(rt; held.count() == 6);
     let held = won(field, held, &AFTER)?;
-    assert_eq!(rt; held.next(field), next);
+    assert!(rt; held.next(field) == next);
     Ok(())
 }
 
@@ -146,8 +146,8 @@ fn first_try_wins(
 {
     let noted = overtaken(rt, field, lists, zero, one)?;
     has_no_stamp(rt, field);
-    assert_eq!(rt; field.peek_node(SHARED), Some(0));
-    assert_eq!(rt; field.peek_node(Node { x: 2, y: 3 }), Some(OCCUPANT_0));
+    assert!(rt; field.peek_node(SHARED) == Some(0));
+    assert!(rt; field.peek_node(Node { x: 2, y: 3 }) == Some(OCCUPANT_0));
     match try_at(noted, field) {
         Ok(held) => wins_rest(rt, field, held, None),
         Err(_) => Err(Fail::from("the first try does not win")),
@@ -167,11 +167,11 @@ fn second_try_wins(
     requires lists { field.now.terms.lists ≡ lists.now }
 {
     let noted = overtaken(rt, field, lists, zero, one)?;
-    assert_eq!(rt; field.peek_node(SHARED), Some(OCCUPANT_0 + STAMP_1));
-    assert_eq!(rt; field.peek_node(Node { x: 2, y: 3 }), Some(OCCUPANT_0));
+    assert!(rt; field.peek_node(SHARED) == Some(OCCUPANT_0 + STAMP_1));
+    assert!(rt; field.peek_node(Node { x: 2, y: 3 }) == Some(OCCUPANT_0));
     match try_at(noted, field) {
         Err(Ok(again)) => {
-            assert_eq!(rt; (again.occupant(), again.stamp()), (Some(0), 1));
+            assert!(rt; (again.occupant(), again.stamp()) == (Some(0), 1));
             match try_at(again, field) {
                 Ok(held) => wins_rest(rt, field, held, Some(CellName::Body(0))),
                 Err(_) => Err(Fail::from("the second try does not win")),

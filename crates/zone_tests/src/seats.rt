@@ -13,14 +13,14 @@ fn take_and_give(rt: &impl Abort, seats: &mut Seats<Idler>, left: u8) -> Result<
 {
     match seats.take() {
         None => {
-            assert_eq!(rt; left, 0);
+            assert!(rt; left == 0);
             Ok(())
         }
         Some(seat) => {
             if left == 0 {
                 Err("one seat more")?;
             }
-            assert_eq!(rt; (seat.caller(), seat.next_turn()), (16 - left, 0));
+            assert!(rt; (seat.caller(), seat.next_turn()) == (16 - left, 0));
             take_and_give(rt, seats, left - 1)?;
             seats.give(seat);
             Ok(())
@@ -55,7 +55,7 @@ fn sixteen_seats_come_back_in_another_order(rt: HostRuntime) -> Result<(), Fail>
     take_and_give(&rt, &mut seats, 16)?;
     take_and_give(&rt, &mut seats, 16)?;
     let (world, journal) = field.close(seats);
-    assert_eq!(rt; world.bots(), 2);
-    assert_eq!(rt; journal.entries().len(), 0);
+    assert!(rt; world.bots() == 2);
+    assert!(rt; journal.entries().len() == 0);
     Ok(())
 }

@@ -113,7 +113,7 @@ fn stands(
     let phase = core.phase(caller);
     match walker {
         Ok(held) => {
-            assert_eq!(rt; core.held(caller).len(), usize::from(held.count()));
+            assert!(rt; core.held(caller).len() == usize::from(held.count()));
             assert!(rt; is_at(phase, held.next(field)), "caller {caller}");
         }
         Err((_, cell, tag)) => assert!(rt; was_refused(phase, *cell, tag), "caller {caller}"),
@@ -206,8 +206,8 @@ fn has_marks(rt: &impl Abort, core: Core<'_, Idler>, zero: Mark, one: Mark) -> R
     if marks.callers() != 2 || marks.count(0) != 1 || marks.count(1) != 1 {
         return Err(Fail::from("one mark for each"));
     }
-    assert_eq!(rt; marks.mark(0, 0), zero);
-    assert_eq!(rt; marks.mark(1, 0), one);
+    assert!(rt; marks.mark(0, 0) == zero);
+    assert!(rt; marks.mark(1, 0) == one);
     Ok(())
 }
 

@@ -61,7 +61,7 @@ fn is_zone(
 {
     let claimed = claimed_whole(rt, field, lists, seat, zone)?;
     let seat = freed(rt, field, claimed, 0, 0);
-    assert_eq!(rt; (seat.caller(), seat.next_turn()), (0, 1));
+    assert!(rt; (seat.caller(), seat.next_turn()) == (0, 1));
     Ok(())
 }
 
