@@ -7,7 +7,7 @@ use crate::field_fixtures::{begun, claim, claimed_whole, freed, none_left, whole
 use crate::fields::{field_of, seat_of};
 use amoebot_state::{CellName, World};
 use claim_core::{Journal, Lists};
-use claim_rule::{Claimed, Field, Refused, Seat, Seats};
+use claim_rule::{Claimed, Field, Held, Refused, Seat, Seats};
 use small_worlds::{Idler, lists_of, standing, world_in};
 use std::alloc::Global;
 use std::process::Abort;
@@ -57,7 +57,7 @@ fn refused_at(
         Ok(_) => Err(Fail::from("no cell is held")),
         Err((seat, refused)) => {
             is_refusal(rt, &refused, cell);
-            assert!(rt; (seat.caller(), seat.next_turn()) == (1, 1));
+            assert!(rt; seat.caller() == 1 && seat.next_turn() == 1);
             Ok(seat)
         }
     }
@@ -65,7 +65,7 @@ fn refused_at(
 
 /// Caller 1 was refused in its first turn at this cell, by caller 0 in its first turn.
 fn is_refusal(rt: &impl Abort, refused: &Refused, cell: CellName) {
-    assert!(rt; (refused.caller(), refused.turn(), refused.place()) == (1, 0, 0));
+    assert!(rt; refused.caller() == 1 && refused.turn() == 0 && refused.place() == 0);
     assert!(rt; refused.cell() == cell);
     assert!(rt; (refused.by_caller(), refused.by_turn(), refused.by_bot()) == (0, 0, 0));
 }
@@ -78,8 +78,8 @@ fn is_found(rt: &impl Abort, claimed: &Claimed<Idler>) {
     assert!(rt; found.body(1).copied() == Some(standing(3, 3, 0)));
 }
 
-/// Caller 1 is refused while caller 0 holds its zone, and claims its own in its next turn, once caller 0 has released it.
-fn takes_turns(
+/// Caller 0 claims its zone, caller 1 is refused, and caller 0 releases its zone.
+fn zero_goes_first(
     rt: &impl Abort,
     field: &Field<'_, Idler>,
     lists: &Lists,
@@ -96,12 +96,44 @@ fn takes_turns(
     is_found(rt, &claimed);
     let one = refused_at(rt, field, lists, one, CellName::Body(1))?;
     let zero = freed(rt, field, claimed, 0, 0);
-    assert!(rt; (zero.caller(), zero.next_turn()) == (0, 1));
+    assert!(rt; zero.caller() == 0 && zero.next_turn() == 1);
+    Ok((zero, one))
+}
+
+/// Caller 1 claims its zone in its second turn, and releases it.
+fn one_follows(
+    rt: &impl Abort,
+    field: &Field<'_, Idler>,
+    lists: &Lists,
+    one: Seat<Idler>,
+) -> Result<Seat<Idler>, Fail>
+    requires one { IsOf field.now one }
+    requires lists { field.now.terms.lists ≡ lists.now }
+    ensures one { IfOk result (λ after. IsOf field.now after × (number_in after ≡ number_in one)) }
+{
     let claimed = claimed_whole(rt, field, lists, one, &ZONE_1)?;
     assert!(rt; claimed.found().body(0).copied() == Some(standing(2, 3, 0)));
     let one = freed(rt, field, claimed, 1, 1);
-    assert!(rt; (one.caller(), one.next_turn()) == (1, 2));
-    Ok((zero, one))
+    assert!(rt; one.caller() == 1 && one.next_turn() == 2);
+    Ok(one)
+}
+
+/// Caller 1 is refused while caller 0 holds its zone, and claims its own in its next turn, once caller 0 has released it.
+fn takes_turns(
+    rt: &impl Abort,
+    field: &Field<'_, Idler>,
+    lists: &Lists,
+    zero: Seat<Idler>,
+    one: Seat<Idler>,
+) -> Result<(Seat<Idler>, Seat<Idler>), Fail>
+    requires zero { IsOf field.now zero }
+    requires one { IsOf field.now one }
+    requires lists { field.now.terms.lists ≡ lists.now }
+    ensures zero { IfOk result (λ after. IsOf field.now after.0 × (number_in after.0 ≡ number_in zero)) }
+    ensures one { IfOk result (λ after. IsOf field.now after.1 × (number_in after.1 ≡ number_in one)) }
+{
+    let (zero, one) = zero_goes_first(rt, field, lists, zero, one)?;
+    Ok((zero, one_follows(rt, field, lists, one)?))
 }
 
 /// The two seats are taken, make their turns, and are given back.
@@ -171,12 +203,42 @@ fn refuses_at(
     requires count { count ≤ 9 }
 {
     let held = won(field, begun(field, lists, zero)?, &ZONE_0[..count])?;
-    let _one = refused_at(rt, field, lists, one, cell)?;
-    let held = won(field, held, &ZONE_0[count..])?;
+    refused_at(rt, field, lists, one, cell)?;
+    wins_rest(rt, field, held, &ZONE_0[count..])
+}
+
+/// Caller 0 wins these last cells of its zone, and makes its turn.
+fn wins_rest(
+    rt: &impl Abort,
+    field: &Field<'_, Idler>,
+    held: Held<Idler>,
+    rest: &[CellName],
+) -> Result<(), Fail>
+    requires { IsOf field.now held }
+{
+    let held = won(field, held, rest)?;
     assert!(rt; held.count() == 9);
     let zero = freed(rt, field, whole(field, held)?, 0, 0);
-    assert!(rt; (zero.caller(), zero.next_turn()) == (0, 1));
+    assert!(rt; zero.caller() == 0 && zero.next_turn() == 1);
     Ok(())
+}
+
+/// The same with the two seats, which nobody has taken yet.
+fn are_refused_at(
+    rt: &impl Abort,
+    field: &Field<'_, Idler>,
+    lists: &Lists,
+    seats: &mut Seats<Idler>,
+    count: usize,
+    cell: CellName,
+) -> Result<(), Fail>
+    requires of { AreOf field.now seats.old }
+    requires lists { field.now.terms.lists ≡ lists.now }
+    requires count { count ≤ 9 }
+{
+    let zero = seat_of(field, seats, 0)?;
+    let one = seat_of(field, seats, 1)?;
+    refuses_at(rt, field, lists, zero, one, count, cell)
 }
 
 /// The same over a field of its own.
@@ -186,9 +248,7 @@ fn is_refused_at(rt: &impl Abort, alloc: Global, count: usize, cell: CellName) -
     let world = world_in(alloc, 8, 8, &[standing(2, 3, 0), standing(3, 3, 0)])?;
     let lists = lists_of(alloc, 1, &world, &[&[0], &[1]])?;
     let (field, mut seats) = field_of(alloc, &Idler, world, &lists)?;
-    let zero = seat_of(&field, &mut seats, 0)?;
-    let one = seat_of(&field, &mut seats, 1)?;
-    refuses_at(rt, &field, &lists, zero, one, count, cell)
+    are_refused_at(rt, &field, &lists, &mut seats, count, cell)
 }
 
 #[test]

@@ -79,16 +79,11 @@ fn won_one<D: Decider>(field: &Field<'_, D>, held: Held<D>, cell: CellName) -> R
     ensures same { IfOk result (λ more. number_in more ≡ number_in held) }
 {
     match held.next(field) {
-        None => Err(Fail::from("the zone is held")),
-        Some(next) => {
-            if next != cell {
-                return Err(Fail::from("another cell is next"));
-            }
-            match win(held, field, next) {
-                Ok(more) => Ok(more),
-                Err(_) => Err(Fail::from("the cell is held")),
-            }
-        }
+        Some(next) if next == cell => match win(held, field, next) {
+            Ok(more) => Ok(more),
+            Err(_) => Err(Fail::from("the cell is held")),
+        },
+        _ => Err(Fail::from("another cell is next, or none")),
     }
 }
 
@@ -117,7 +112,7 @@ pub fn freed(
     ensures same { number_in result ≡ number_in claimed }
 {
     let seen = place(&mut claimed, field);
-    assert!(rt; (seen.caller(), seen.turn(), seen.place()) == (caller, turn, 0));
+    assert!(rt; seen.caller() == caller && seen.turn() == turn && seen.place() == 0);
     release(claimed, field)
 }
 

@@ -1,12 +1,13 @@
 //! A caller looks at the word of a node, another one makes its whole turn, and then the first one tries the word that it noted.
 ghost use Rattle.std.specs.Prelude.{◌≡◌, IfOk};
+ghost use Rattle.claim_rule.specs.Seating.{AreOf};
 ghost use Rattle.claim_rule.specs.Tokens.{IsOf};
 
 use crate::field_fixtures::{begun, won};
 use crate::fields::{decided, field_of, seat_of};
 use amoebot_state::{CellName, Decider, End, Port};
 use claim_core::Lists;
-use claim_rule::{Field, Held, Noted, Seat, look_at, store, take, try_at};
+use claim_rule::{Field, Held, Noted, Seat, Seats, look_at, store, take, try_at};
 use node_claims::release_settled;
 use small_worlds::{Expander, Marker, lists_of, standing, world_in};
 use std::process::Abort;
@@ -78,7 +79,7 @@ fn turn_done<D: Decider>(
         Err(_) => Err(Fail::from("the journal is taken")),
         Ok(taken) => {
             let (settled, receipt) = store(taken, field);
-            assert!(rt; (receipt.caller(), receipt.place()) == (0, 0));
+            assert!(rt; receipt.caller() == 0 && receipt.place() == 0);
             let seat = release_settled(settled, field);
             assert!(rt; seat.next_turn() == 1);
             Ok(())
@@ -91,10 +92,25 @@ fn overtaken<D: Decider>(
     rt: &impl Abort,
     field: &Field<'_, D>,
     lists: &Lists,
-    zero: Seat<D>,
+    seats: &mut Seats<D>,
+) -> Result<Noted<D>, Fail>
+    requires of { AreOf field.now seats.old }
+    requires lists { field.now.terms.lists ≡ lists.now }
+    ensures { IfOk result (λ noted. IsOf field.now noted.claim) }
+{
+    let zero = seat_of(field, seats, 0)?;
+    let noted = shared_is_noted(rt, field, lists, seat_of(field, seats, 1)?)?;
+    turn_done(rt, field, lists, zero)?;
+    Ok(noted)
+}
+
+/// A caller has won the cells before the shared node, which has no occupant and no stamp, and notes it.
+fn shared_is_noted<D: Decider>(
+    rt: &impl Abort,
+    field: &Field<'_, D>,
+    lists: &Lists,
     one: Seat<D>,
 ) -> Result<Noted<D>, Fail>
-    requires zero { IsOf field.now zero }
     requires one { IsOf field.now one }
     requires lists { field.now.terms.lists ≡ lists.now }
     ensures { IfOk result (λ noted. IsOf field.now noted.claim) }
@@ -102,8 +118,7 @@ fn overtaken<D: Decider>(
     let held = won(field, begun(field, lists, one)?, &BEFORE)?;
     assert!(rt; field.peek_node(SHARED) == Some(0));
     let noted = noted_at(field, held, SHARED)?;
-    assert!(rt; (noted.occupant(), noted.stamp()) == (None, 0));
-    turn_done(rt, field, lists, zero)?;
+    assert!(rt; noted.occupant() == None && noted.stamp() == 0);
     Ok(noted)
 }
 
@@ -137,14 +152,12 @@ fn first_try_wins(
     rt: &impl Abort,
     field: &Field<'_, Marker>,
     lists: &Lists,
-    zero: Seat<Marker>,
-    one: Seat<Marker>,
+    seats: &mut Seats<Marker>,
 ) -> Result<(), Fail>
-    requires zero { IsOf field.now zero }
-    requires one { IsOf field.now one }
+    requires of { AreOf field.now seats.old }
     requires lists { field.now.terms.lists ≡ lists.now }
 {
-    let noted = overtaken(rt, field, lists, zero, one)?;
+    let noted = overtaken(rt, field, lists, seats)?;
     has_no_stamp(rt, field);
     assert!(rt; field.peek_node(SHARED) == Some(0));
     assert!(rt; field.peek_node(Node { x: 2, y: 3 }) == Some(OCCUPANT_0));
@@ -159,19 +172,17 @@ fn second_try_wins(
     rt: &impl Abort,
     field: &Field<'_, Expander>,
     lists: &Lists,
-    zero: Seat<Expander>,
-    one: Seat<Expander>,
+    seats: &mut Seats<Expander>,
 ) -> Result<(), Fail>
-    requires zero { IsOf field.now zero }
-    requires one { IsOf field.now one }
+    requires of { AreOf field.now seats.old }
     requires lists { field.now.terms.lists ≡ lists.now }
 {
-    let noted = overtaken(rt, field, lists, zero, one)?;
+    let noted = overtaken(rt, field, lists, seats)?;
     assert!(rt; field.peek_node(SHARED) == Some(OCCUPANT_0 + STAMP_1));
     assert!(rt; field.peek_node(Node { x: 2, y: 3 }) == Some(OCCUPANT_0));
     match try_at(noted, field) {
         Err(Ok(again)) => {
-            assert!(rt; (again.occupant(), again.stamp()) == (Some(0), 1));
+            assert!(rt; again.occupant() == Some(0) && again.stamp() == 1);
             match try_at(again, field) {
                 Ok(held) => wins_rest(rt, field, held, Some(CellName::Body(0))),
                 Err(_) => Err(Fail::from("the second try does not win")),
@@ -187,9 +198,7 @@ fn a_node_that_a_commit_left_is_won_by_the_first_try(rt: HostRuntime) -> Result<
     let world = world_in(alloc, 8, 8, &[standing(2, 3, 0), standing(4, 3, 0)])?;
     let lists = lists_of(alloc, 1, &world, &[&[0], &[1]])?;
     let (field, mut seats) = field_of(alloc, &Marker, world, &lists)?;
-    let zero = seat_of(&field, &mut seats, 0)?;
-    let one = seat_of(&field, &mut seats, 1)?;
-    first_try_wins(&rt, &field, &lists, zero, one)
+    first_try_wins(&rt, &field, &lists, &mut seats)
 }
 
 #[test]
@@ -198,7 +207,5 @@ fn a_node_that_a_commit_changed_is_won_by_the_second_try(rt: HostRuntime) -> Res
     let world = world_in(alloc, 8, 8, &[standing(2, 3, 0), standing(4, 3, 0)])?;
     let lists = lists_of(alloc, 1, &world, &[&[0], &[1]])?;
     let (field, mut seats) = field_of(alloc, &EXPANDER, world, &lists)?;
-    let zero = seat_of(&field, &mut seats, 0)?;
-    let one = seat_of(&field, &mut seats, 1)?;
-    second_try_wins(&rt, &field, &lists, zero, one)
+    second_try_wins(&rt, &field, &lists, &mut seats)
 }

@@ -28,29 +28,14 @@ fn take_and_give(rt: &impl Abort, seats: &mut Seats<Idler>, left: u8) -> Result<
     }
 }
 
+/// The list of a caller.
+const ONE: &[u16] = &[0];
+
 #[test]
 fn sixteen_seats_come_back_in_another_order(rt: HostRuntime) -> Result<(), Fail> {
     let alloc = rt.alloc();
     let world = world_in(alloc, 8, 8, &[standing(2, 3, 0), standing(3, 3, 0)])?;
-    let ids: &[&[u16]] = &[
-        &[0],
-        &[1],
-        &[0],
-        &[1],
-        &[0],
-        &[1],
-        &[0],
-        &[1],
-        &[0],
-        &[1],
-        &[0],
-        &[1],
-        &[0],
-        &[1],
-        &[0],
-        &[1],
-    ];
-    let lists = lists_of(alloc, 3, &world, ids)?;
+    let lists = lists_of(alloc, 3, &world, &[ONE; 16])?;
     let (field, mut seats) = field_of(alloc, &Idler, world, &lists)?;
     take_and_give(&rt, &mut seats, 16)?;
     take_and_give(&rt, &mut seats, 16)?;

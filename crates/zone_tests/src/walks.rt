@@ -2,6 +2,7 @@ ghost use Rattle.std.specs.Prelude.{◌≡◌, ◌<◌, ◌≤◌, length, IfOk,
 ghost use Rattle.std.specs.List.{All};
 ghost use Rattle.amoebot_state.specs.Configs.{bot_at};
 ghost use Rattle.claim_core.specs.declared.state.Phase.TheVariants.{Refusing};
+ghost use Rattle.claim_rule.specs.Seating.{AreOf};
 ghost use Rattle.claim_rule.specs.Tokens.{IsOf, doing};
 ghost use Rattle.zone_tests.specs.Walks.{IsWalker};
 
@@ -9,7 +10,7 @@ use crate::field_fixtures::{begun, whole};
 use crate::fields::{field_of, seat_of};
 use amoebot_state::{CellName, World};
 use claim_core::{Core, Lists, Look, Mark, Phase};
-use claim_rule::{Field, Freeing, Held, Stopped, Tag, end, free_last, look, refuse, win};
+use claim_rule::{Field, Freeing, Held, Seats, Stopped, Tag, end, free_last, look, refuse, win};
 use node_claims::release;
 use small_worlds::{Idler, lists_of, standing, world_in};
 use std::alloc::Global;
@@ -257,16 +258,32 @@ fn core_of(alloc: Global) -> Result<Core<'static, Idler>, Fail>
     }
 }
 
-/// The same over a field and a core of their own.
+/// The same with the two seats, which nobody has taken yet, and a core of its own.
+fn seated(
+    rt: &impl Abort,
+    alloc: Global,
+    field: &Field<'_, Idler>,
+    lists: &Lists,
+    seats: &mut Seats<Idler>,
+    steps: (u32, u32),
+) -> Result<(), Fail>
+    requires of { AreOf field.now seats.old }
+    requires lists { field.now.terms.lists ≡ lists.now }
+    requires few { steps.0 ≤ 8 }
+{
+    let zero = begun(field, lists, seat_of(field, seats, 0)?)?;
+    let one = begun(field, lists, seat_of(field, seats, 1)?)?;
+    let (count, word) = steps;
+    agrees(rt, field, core_of(alloc)?, (Ok(zero), Ok(one)), count, word)
+}
+
+/// The same over a field of its own.
 fn agree(rt: &impl Abort, alloc: Global, count: u32, word: u32) -> Result<(), Fail>
     requires { count ≤ 8 }
 {
-    let core = core_of(alloc)?;
     let (world, lists) = two_beside(alloc)?;
     let (field, mut seats) = field_of(alloc, &Idler, world, &lists)?;
-    let zero = begun(&field, &lists, seat_of(&field, &mut seats, 0)?)?;
-    let one = begun(&field, &lists, seat_of(&field, &mut seats, 1)?)?;
-    agrees(rt, &field, core, (Ok(zero), Ok(one)), count, word)
+    seated(rt, alloc, &field, &lists, &mut seats, (count, word))
 }
 
 /// Every interleaving of the claim steps of two zones of the same four cells, and every beginning of one.
