@@ -1,5 +1,6 @@
 //! The calls of a gate: one in each turn whose zone was claimed, before the decision, with the turn's caller and number.
 ghost use Rattle.std.specs.Prelude.{◌≡◌, IfOk};
+ghost use Rattle.claim_rule.specs.Seating.{AreOf};
 ghost use Rattle.claim_rule.specs.Tokens.{IsOf, number_in};
 
 use crate::fixtures::turn_of;
@@ -7,7 +8,7 @@ use crate::runs::{WAYS, Way, report_of};
 use activation::Gate;
 use amoebot_state::{Decider, Found, Verdict};
 use claim_core::{Lists, Mark, Marks};
-use claim_rule::{Field, Seat};
+use claim_rule::{Field, Seat, Seats};
 use small_worlds::{Idler, Marker, lists_of, standing, world_in};
 use std::alloc::Global;
 use std::process::Abort;
@@ -90,11 +91,9 @@ fn decides_behind_the_gate<R: Wait + Abort>(
     let decider = field.decider();
     let gate = Before { decider };
     let (seat, first) = turn_of(rt, field, lists, &gate, seat)?;
-    assert!(rt; first.mark() == Mark::Idle { place: 0 });
-    assert!(rt; decider.has_seen(1));
+    assert!(rt; first.mark() == Mark::Idle { place: 0 } && decider.has_seen(1));
     let (_seat, second) = turn_of(rt, field, lists, &gate, seat)?;
-    assert!(rt; second.mark() == Mark::Idle { place: 0 });
-    assert!(rt; decider.has_seen(2));
+    assert!(rt; second.mark() == Mark::Idle { place: 0 } && decider.has_seen(2));
     Ok(())
 }
 
@@ -139,13 +138,44 @@ fn notes_each_turn<R: Wait + Abort>(
     let gate = Noting {
         calls: AtomicU64::new(0),
     };
-    let (zero, _first) = turn_of(rt, field, lists, &gate, zero)?;
-    let (one, _second) = turn_of(rt, field, lists, &gate, one)?;
+    let zero = seat_behind(rt, field, lists, &gate, zero)?;
+    let one = seat_behind(rt, field, lists, &gate, one)?;
     assert!(rt; gate.calls.load(Ordering::SeqCst) == 1020);
-    let (_one, _third) = turn_of(rt, field, lists, &gate, one)?;
-    let (_zero, _fourth) = turn_of(rt, field, lists, &gate, zero)?;
+    seat_behind(rt, field, lists, &gate, one)?;
+    seat_behind(rt, field, lists, &gate, zero)?;
     assert!(rt; gate.calls.load(Ordering::SeqCst) == 10_202_111);
     Ok(())
+}
+
+/// The seat behind its next turn.
+fn seat_behind<R: Wait>(
+    rt: &R,
+    field: &Field<'_, Idler>,
+    lists: &Lists,
+    gate: &Noting,
+    seat: Seat<Idler>,
+) -> Result<Seat<Idler>, Fail>
+    requires of { IsOf field.now seat }
+    requires lists { field.now.terms.lists ≡ lists.now }
+    ensures { IfOk result (λ after. IsOf field.now after) }
+{
+    let (after, _) = turn_of(rt, field, lists, gate, seat)?;
+    Ok(after)
+}
+
+/// The same with the two seats, which nobody has taken yet.
+fn both_are_noted<R: Wait + Abort>(
+    rt: &R,
+    field: &Field<'_, Idler>,
+    lists: &Lists,
+    seats: &mut Seats<Idler>,
+) -> Result<(), Fail>
+    requires of { AreOf field.now seats.old }
+    requires lists { field.now.terms.lists ≡ lists.now }
+{
+    let zero = seat_of(field, seats, 0)?;
+    let one = seat_of(field, seats, 1)?;
+    notes_each_turn(rt, field, lists, zero, one)
 }
 
 #[test]
@@ -156,9 +186,7 @@ fn the_gate_is_told_caller_and_turn(rt: HostRuntime) -> Result<(), Fail> {
     // No turn has the number of its amoebot, nor has its caller.
     let lists = lists_of(alloc, 2, &world, &[&[2, 2], &[2, 0]])?;
     let (field, mut seats) = field_of(alloc, &Idler, world, &lists)?;
-    let zero = seat_of(&field, &mut seats, 0)?;
-    let one = seat_of(&field, &mut seats, 1)?;
-    notes_each_turn(&rt, &field, &lists, zero, one)
+    both_are_noted(&rt, &field, &lists, &mut seats)
 }
 
 /// A gate that notes which turns of four callers came, and how many calls there were. It lets other threads go first, so that zones are

@@ -1,5 +1,6 @@
-ghost use Rattle.std.specs.Prelude.{◌≡◌, map, is_some, IfOk, IsSome, OnOk};
+ghost use Rattle.std.specs.Prelude.{◌≡◌, ◌≤◌, length, map, is_some, IfOk, IsSome, OnOk};
 ghost use Rattle.std.specs.List.{All};
+ghost use Rattle.amoebot_state.specs.Configs.{bot_at};
 ghost use Rattle.amoebot_state.specs.Steps.{Run};
 ghost use Rattle.claim_core.specs.Good.{AreMarksSoFar, Order};
 ghost use Rattle.claim_core.specs.Turns.{MarkLists};
@@ -38,7 +39,7 @@ fn turns_of<R: Wait + Abort, D: Decider>(
         is_marked(rt, expected, &answer)?;
         seat = after;
     }
-    assert!(rt; (seat.next_turn(), gate.calls()) == (lists.turns(), u64::from(lists.turns())));
+    assert!(rt; seat.next_turn() == lists.turns() && gate.calls() == u64::from(lists.turns()));
     Ok(seat)
 }
 
@@ -106,6 +107,22 @@ static MARKS: [&[Mark]; 4] = [
     &[Mark::Idle { place: 3 }, Mark::Idle { place: 3 }],
 ];
 
+/// What a field over the world leaves once so many callers have made all their turns.
+fn left_after<R: Wait + Abort>(
+    rt: &R,
+    alloc: Global,
+    world: World,
+    lists: &Lists,
+    expected: &Marks,
+    callers: u8,
+) -> Result<(World, Journal), Fail>
+    requires some { 1 ≤ length lists.now.ids }
+    requires bots { All (All (λ id. IsSome (bot_at world id))) lists.now.ids }
+{
+    let (field, seats) = field_of(alloc, &Marker, world, lists)?;
+    closed(rt, field, lists, expected, seats, callers)
+}
+
 /// Four callers, of which so many make all their turns: the field leaves these entries then, and what the machine leaves by the same
 /// steps once all have made them.
 fn closes_after<R: Wait + Abort>(
@@ -119,8 +136,7 @@ fn closes_after<R: Wait + Abort>(
     let lists = lists_of(alloc, 2, &world, &LISTS)?;
     let report = machine_leaves(alloc, &Marker, &world, &lists, &STEPS)?;
     assert!(rt; have_marks(&report.turns, &MARKS));
-    let (field, seats) = field_of(alloc, &Marker, world, &lists)?;
-    let (last, journal) = closed(rt, field, &lists, &report.turns, seats, callers)?;
+    let (last, journal) = left_after(rt, alloc, world, &lists, &report.turns, callers)?;
     are_entries(rt, &journal, entries);
     if callers == 4 {
         is_left(rt, &report, &last, &journal);

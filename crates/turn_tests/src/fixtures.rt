@@ -61,6 +61,6 @@ pub fn are_entries(rt: &impl Abort, journal: &Journal, expected: &[(u8, u32, u16
     assert!(rt; entries.len() == expected.len());
     for (entry, turn) in entries.iter().zip(expected) {
         assert!(rt; (entry.caller, entry.turn, entry.bot) == *turn);
-        assert!(rt; (entry.action, entry.patch.triples().len()) == (0, 1));
+        assert!(rt; entry.action == 0 && entry.patch.triples().len() == 1);
     }
 }

@@ -1,10 +1,11 @@
 ghost use Rattle.std.specs.Prelude.{◌≡◌, IfOk};
+ghost use Rattle.claim_rule.specs.Seating.{AreOf};
 ghost use Rattle.claim_rule.specs.Tokens.{IsOf};
 ghost use Rattle.claim_rule.specs.Settling.{IsToTake};
 
 use amoebot_state::Change;
 use claim_core::Lists;
-use claim_rule::{Claimed, Field, Seat, Settled, Taken, store, take};
+use claim_rule::{Claimed, Field, Seat, Seats, Settled, Taken, store, take};
 use node_claims::release_settled;
 use small_worlds::{Marker, lists_of, standing, world_in};
 use std::process::Abort;
@@ -56,7 +57,7 @@ fn stored(
     ensures { IsOf field.now result }
 {
     let (settled, receipt) = store(taken, field);
-    assert!(rt; (receipt.caller(), receipt.turn(), receipt.place()) == (caller, 0, place));
+    assert!(rt; receipt.caller() == caller && receipt.turn() == 0 && receipt.place() == place);
     settled
 }
 
@@ -75,13 +76,43 @@ fn take_turns(
     let (claimed, change) = decided(field, lists, zero)?;
     let (second, second_change) = decided(field, lists, one)?;
     let taken = taken_by(field, claimed, change)?;
-    let (second, second_change) = refused(field, second, second_change)?;
+    second_follows(rt, field, taken, second, second_change)
+}
+
+/// Caller 1, which has decided, finds the journal taken, and takes it once caller 0 has stored its entry.
+fn second_follows(
+    rt: &impl Abort,
+    field: &Field<'_, Marker>,
+    taken: Taken<Marker>,
+    second: Claimed<Marker>,
+    change: Change,
+) -> Result<(), Fail>
+    requires taken { IsOf field.now taken }
+    requires second { IsOf field.now second }
+    requires takes { IsToTake second change }
+{
+    let (second, change) = refused(field, second, change)?;
     let settled = stored(rt, field, taken, 0, 0);
-    let taken = taken_by(field, second, second_change)?;
+    let taken = taken_by(field, second, change)?;
     let zero = release_settled(settled, field);
     let one = release_settled(stored(rt, field, taken, 1, 1), field);
-    assert!(rt; (zero.next_turn(), one.next_turn()) == (1, 1));
+    assert!(rt; zero.next_turn() == 1 && one.next_turn() == 1);
     Ok(())
+}
+
+/// The same with the two seats, which nobody has taken yet.
+fn take_seats(
+    rt: &impl Abort,
+    field: &Field<'_, Marker>,
+    lists: &Lists,
+    seats: &mut Seats<Marker>,
+) -> Result<(), Fail>
+    requires of { AreOf field.now seats.old }
+    requires lists { field.now.terms.lists ≡ lists.now }
+{
+    let zero = seat_of(field, seats, 0)?;
+    let one = seat_of(field, seats, 1)?;
+    take_turns(rt, field, lists, zero, one)
 }
 
 #[test]
@@ -91,7 +122,5 @@ fn the_journal_is_found_taken_until_the_other_caller_has_committed(
     let world = world_in(rt.alloc(), 12, 12, &[standing(2, 2, 0), standing(8, 8, 0)])?;
     let lists = lists_of(rt.alloc(), 1, &world, &[&[0], &[1]])?;
     let (field, mut seats) = field_of(rt.alloc(), &Marker, world, &lists)?;
-    let zero = seat_of(&field, &mut seats, 0)?;
-    let one = seat_of(&field, &mut seats, 1)?;
-    take_turns(&rt, &field, &lists, zero, one)
+    take_seats(&rt, &field, &lists, &mut seats)
 }

@@ -59,8 +59,7 @@ pub fn is_marked(rt: &impl Abort, expected: &Marks, answer: &Turn) -> Result<(),
 
 /// The last world and the journal are those of the report.
 pub fn is_left(rt: &impl Abort, report: &Report, last: &World, journal: &Journal) {
-    assert!(rt; last.same(&report.world));
-    assert!(rt; journal.first().same(report.journal.first()));
+    assert!(rt; last.same(&report.world) && journal.first().same(report.journal.first()));
     assert!(rt; journal.entries().len() == report.journal.entries().len());
     for (entry, expected) in journal.entries().iter().zip(report.journal.entries()) {
         is_same(rt, entry, expected);
@@ -69,8 +68,8 @@ pub fn is_left(rt: &impl Abort, report: &Report, last: &World, journal: &Journal
 
 fn is_same(rt: &impl Abort, entry: &Entry, expected: &Entry) {
     assert!(rt;
-        (entry.caller, entry.turn, entry.bot) == (expected.caller, expected.turn, expected.bot)
+        entry.caller == expected.caller && entry.turn == expected.turn && entry.bot == expected.bot
     );
-    assert!(rt; (entry.action, entry.moved) == (expected.action, expected.moved));
+    assert!(rt; entry.action == expected.action && entry.moved == expected.moved);
     assert!(rt; entry.patch.triples() == expected.patch.triples());
 }

@@ -1,5 +1,6 @@
-ghost use Rattle.std.specs.Prelude.{◌≡◌, map, is_some, IfOk, IsSome, OnOk};
+ghost use Rattle.std.specs.Prelude.{◌≡◌, ◌≤◌, length, map, is_some, IfOk, IsSome, OnOk};
 ghost use Rattle.std.specs.List.{All};
+ghost use Rattle.amoebot_state.specs.Configs.{bot_at};
 ghost use Rattle.claim_rule.specs.Seating.{AreOf};
 ghost use Rattle.claim_rule.specs.Tokens.{IsOf, number_in};
 ghost use Rattle.claim_rule.specs.Settling.{IsToTake};
@@ -75,7 +76,7 @@ fn committed<R: Wait + Abort>(
     ensures same { number_in result ≡ number_in claimed }
 {
     let (settled, receipt) = commit(rt, field, claimed, change);
-    assert!(rt; (receipt.caller(), receipt.turn(), receipt.place()) == (0, 0, 0));
+    assert!(rt; receipt.caller() == 0 && receipt.turn() == 0 && receipt.place() == 0);
     release_settled(settled, field)
 }
 
@@ -129,7 +130,7 @@ fn inside<R: Wait + Abort>(
     let (zero, one) = first_inside(rt, field, lists, expected, zero, one)?;
     let (one, zero) = one_each(rt, field, lists, expected, &gate, (one, zero), marks)?;
     assert!(rt; gate.calls() == 2);
-    assert!(rt; (zero.next_turn(), one.next_turn()) == (2, 2));
+    assert!(rt; zero.next_turn() == 2 && one.next_turn() == 2);
     Ok((zero, one))
 }
 
@@ -170,17 +171,37 @@ fn closed<R: Wait + Abort>(
     Ok(field.close(seats))
 }
 
+/// What a field over the world leaves once both callers have made their turns.
+fn left_inside<R: Wait + Abort>(
+    rt: &R,
+    alloc: Global,
+    world: World,
+    lists: &Lists,
+    expected: &Marks,
+) -> Result<(World, Journal), Fail>
+    requires some { 1 ≤ length lists.now.ids }
+    requires bots { All (All (λ id. IsSome (bot_at world id))) lists.now.ids }
+{
+    let (field, seats) = field_of(alloc, &Marker, world, lists)?;
+    closed(rt, field, lists, expected, seats)
+}
+
+/// Variable 0 of both is 1.
+fn are_marked(rt: &impl Abort, alloc: Global, last: &World) -> Result<(), Fail> {
+    let marked = world_in(alloc, 8, 8, &[standing(2, 3, 1), standing(3, 3, 1)])?;
+    assert!(rt; last.same(&marked));
+    Ok(())
+}
+
 /// What the journal is of two neighbours, each with a caller of two turns. They end with variable 0 at 1, as the machine leaves them by
 /// the same steps.
 fn both_marked<R: Wait + Abort>(rt: &R, alloc: Global) -> Result<Journal, Fail> {
     let world = world_in(alloc, 8, 8, &[standing(2, 3, 0), standing(3, 3, 0)])?;
     let lists = lists_of(alloc, 2, &world, &[&[0], &[1]])?;
     let report = machine_leaves(alloc, &Marker, &world, &lists, &INSIDE)?;
-    let (field, seats) = field_of(alloc, &Marker, world, &lists)?;
-    let (last, journal) = closed(rt, field, &lists, &report.turns, seats)?;
+    let (last, journal) = left_inside(rt, alloc, world, &lists, &report.turns)?;
     is_left(rt, &report, &last, &journal);
-    let bots = &[standing(2, 3, 1), standing(3, 3, 1)];
-    assert!(rt; last.same(&world_in(alloc, 8, 8, bots)?));
+    are_marked(rt, alloc, &last)?;
     Ok(journal)
 }
 
@@ -212,8 +233,24 @@ fn fails_twice<R: Wait + Abort>(
     };
     let seat = marked(rt, field, lists, expected, &gate, seat, failed)?;
     let seat = marked(rt, field, lists, expected, &gate, seat, failed)?;
-    assert!(rt; (seat.next_turn(), gate.calls()) == (2, 2));
+    assert!(rt; seat.next_turn() == 2 && gate.calls() == 2);
     Ok(())
+}
+
+/// The same on a field over the world.
+fn fails_in<R: Wait + Abort>(
+    rt: &R,
+    alloc: Global,
+    world: World,
+    lists: &Lists,
+    expected: &Marks,
+) -> Result<(), Fail>
+    requires some { 1 ≤ length lists.now.ids }
+    requires bots { All (All (λ id. IsSome (bot_at world id))) lists.now.ids }
+{
+    let (field, mut seats) = field_of(alloc, &AtEdge, world, lists)?;
+    let seat = seat_of(&field, &mut seats, 0)?;
+    fails_twice(rt, &field, lists, expected, seat)
 }
 
 #[test]
@@ -222,7 +259,5 @@ fn a_turn_that_fails_leaves_its_zone_free(rt: HostRuntime) -> Result<(), Fail> {
     let world = world_in(alloc, 8, 8, &[standing(2, 3, 0)])?;
     let lists = lists_of(alloc, 2, &world, &[&[0]])?;
     let report = machine_leaves(alloc, &AtEdge, &world, &lists, &[(0, 38)])?;
-    let (field, mut seats) = field_of(alloc, &AtEdge, world, &lists)?;
-    let seat = seat_of(&field, &mut seats, 0)?;
-    fails_twice(&rt, &field, &lists, &report.turns, seat)
+    fails_in(&rt, alloc, world, &lists, &report.turns)
 }

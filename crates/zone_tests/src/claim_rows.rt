@@ -1,5 +1,6 @@
-ghost use Rattle.std.specs.Prelude.{◌≡◌, ◌≤◌, map, is_some, IfOk, IsSome, OnOk};
+ghost use Rattle.std.specs.Prelude.{◌≡◌, ◌≤◌, length, map, is_some, IfOk, IsSome, OnOk};
 ghost use Rattle.std.specs.List.{All};
+ghost use Rattle.amoebot_state.specs.Configs.{bot_at};
 ghost use Rattle.claim_rule.specs.Seating.{AreOf};
 ghost use Rattle.claim_rule.specs.Tokens.{IsOf, number_in};
 
@@ -172,18 +173,30 @@ fn closed(
     Ok(field.close(seats))
 }
 
+/// The field leaves the world as it was before, and a journal without an entry.
+fn leaves_all(
+    rt: &impl Abort,
+    alloc: Global,
+    world: World,
+    lists: &Lists,
+    before: &World,
+) -> Result<(), Fail>
+    requires some { 1 ≤ length lists.now.ids }
+    requires bots { All (All (λ id. IsSome (bot_at world id))) lists.now.ids }
+{
+    let (field, seats) = field_of(alloc, &Idler, world, lists)?;
+    let (last, journal) = closed(rt, field, lists, seats)?;
+    assert!(rt; last.same(before) && journal.first().same(before) && journal.entries().is_empty());
+    Ok(())
+}
+
 #[test]
 fn a_zone_that_another_holds_is_refused_until_it_is_released(rt: HostRuntime) -> Result<(), Fail> {
     let alloc = rt.alloc();
     let world = world_in(alloc, 8, 8, &[standing(2, 3, 0), standing(3, 3, 0)])?;
     let before = world.copy(alloc)?;
     let lists = lists_of(alloc, 2, &world, &[&[0], &[1]])?;
-    let (field, seats) = field_of(alloc, &Idler, world, &lists)?;
-    let (last, journal) = closed(&rt, field, &lists, seats)?;
-    assert!(rt; last.same(&before));
-    assert!(rt; journal.first().same(&before));
-    assert!(rt; journal.entries().len() == 0);
-    Ok(())
+    leaves_all(&rt, alloc, world, &lists, &before)
 }
 
 /// Caller 0 holds so many cells of the zone of amoebot 0. The claim of amoebot 1 is refused at this cell, and frees what it won: caller
