@@ -189,7 +189,7 @@ static THROUGH_PORTS: [Asked; 44] = [
 ];
 
 /// Ports, and what is asked of one.
-static PORTS: [Asked; 52] = [
+static PORTS: [Asked; 36] = [
     // a port by its end and a number, or the value of a variable
     ("dir head 4 = 4", 0, True),
     ("dir head x = 4", 0, True),
@@ -233,6 +233,10 @@ static PORTS: [Asked; 52] = [
     ("dir tail 2 = 2", 1, True),
     ("dir tail 1 = 1", 0, Fails(NoPort)),
     ("dir head 0 = 0", 1, Fails(NoPort)),
+];
+
+/// What is asked of the amoebot behind a port.
+static PEERS: [Asked; 16] = [
     // `peer_expanded`
     ("peer_expanded head 0", 0, True),
     ("peer_expanded head 3", 0, False),
@@ -449,6 +453,13 @@ fn what_goes_through_the_ports_of_a_set_has_these_values(rt: HostRuntime) -> Res
 #[test]
 fn what_is_asked_of_a_port_has_these_values(rt: HostRuntime) -> Result<(), Fail> {
     are_valued(&rt, rt.alloc(), &PORTS)
+}
+
+#[test]
+fn what_is_asked_of_the_amoebot_behind_a_port_has_these_values(
+    rt: HostRuntime,
+) -> Result<(), Fail> {
+    are_valued(&rt, rt.alloc(), &PEERS)
 }
 
 #[test]

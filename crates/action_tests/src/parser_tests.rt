@@ -7,6 +7,7 @@ use action_parser::parse_program;
 use std::alloc::{AllocError, Global};
 use std::process::Abort;
 use std::test::Fail;
+use test_texts::text_of;
 use text_tokens::{ReadRefusal, Refusal, RefusalKind, Tokens};
 
 /// The line and the kind of the refusal of a text, or none where it is read.
@@ -20,26 +21,6 @@ fn fault(alloc: Global, text: &str) -> Result<Option<(u32, RefusalKind)>, AllocE
         Err(ReadRefusal::Refused(Refusal { line, kind })) => Ok(Some((line, kind))),
         Err(ReadRefusal::NoMemory) => Err(AllocError),
     }
-}
-
-fn push_times(text: &mut String, piece: &str, times: u32) -> Result<(), AllocError> {
-    for _ in 0..times {
-        text.push_str(piece)?;
-    }
-    Ok(())
-}
-
-fn long_text(alloc: Global, row: &Long) -> Result<String, AllocError> {
-    let (front, (opens, levels, closes), start, (piece, pieces), rest, end, _) = row;
-    let mut text = String::new(alloc);
-    text.push_str(front)?;
-    push_times(&mut text, opens, *levels)?;
-    text.push_str(start)?;
-    push_times(&mut text, piece, *pieces)?;
-    text.push_str(rest)?;
-    push_times(&mut text, closes, *levels)?;
-    text.push_str(end)?;
-    Ok(text)
 }
 
 /// Each text of a table is read as its tree.
@@ -66,11 +47,11 @@ fn are_refused(rt: &impl Abort, alloc: Global, table: &[Fault]) -> Result<(), Al
 }
 
 /// Each long text of a table is read or refused as the table says.
-fn are_limited(rt: &impl Abort, alloc: Global, table: &[Long]) -> Result<(), AllocError> {
-    for row in table {
-        let text = long_text(alloc, row)?;
+fn are_limited(rt: &impl Abort, alloc: Global, table: &[Long]) -> Result<(), Fail> {
+    for (template, wanted) in table {
+        let text = text_of(alloc, template, &[])?;
         let found = fault(alloc, text.as_str())?;
-        assert!(rt; found == row.6, "{text}");
+        assert!(rt; found == *wanted, "{text}");
     }
     Ok(())
 }
@@ -161,20 +142,17 @@ fn name_faults_are_told(rt: HostRuntime) -> Result<(), Fail> {
 
 #[test]
 fn levels_are_kept_exactly(rt: HostRuntime) -> Result<(), Fail> {
-    are_limited(&rt, rt.alloc(), &LEVELS)?;
-    Ok(())
+    are_limited(&rt, rt.alloc(), &LEVELS)
 }
 
 #[test]
 fn counts_are_kept_exactly(rt: HostRuntime) -> Result<(), Fail> {
-    are_limited(&rt, rt.alloc(), &COUNTS)?;
-    Ok(())
+    are_limited(&rt, rt.alloc(), &COUNTS)
 }
 
 #[test]
 fn the_first_fault_is_told(rt: HostRuntime) -> Result<(), Fail> {
-    are_limited(&rt, rt.alloc(), &FIRST_FAULTS)?;
-    Ok(())
+    are_limited(&rt, rt.alloc(), &FIRST_FAULTS)
 }
 
 #[test]

@@ -23,8 +23,8 @@ pub type Run = (
     &'static [Body],
 );
 
-/// The movements, with and without what each of them needs.
-static MOVEMENTS: [Run; 20] = [
+/// Expansions, pushes and pulls, and no movement.
+static MOVEMENTS: [Run; 8] = [
     (
         "program action out when contracted move expand head 0 end",
         &[((2, 3), (2, 3), 0, Plus, [0, 0, 0])],
@@ -103,6 +103,16 @@ static MOVEMENTS: [Run; 20] = [
             ((2, 3), (1, 3), 0, Plus, [0, 0, 0]),
         ],
     ),
+    (
+        "program action a when true end",
+        &[((3, 3), (3, 3), 0, Plus, [0, 0, 0])],
+        &[(0, Done("0 none")), (0, Done("0 none"))],
+        &[((3, 3), (3, 3), 0, Plus, [0, 0, 0])],
+    ),
+];
+
+/// Contractions, and what else the guard of connectivity might stand before.
+static GUARDED: [Run; 5] = [
     // around (2, 3) the directions 0 and 3 alone are occupied, which is no arc
     (
         "program guard on action a when expanded move contract tail end",
@@ -172,6 +182,10 @@ static MOVEMENTS: [Run; 20] = [
             ((4, 3), (4, 3), 0, Plus, [0, 0, 0]),
         ],
     ),
+];
+
+/// Movements without what each of them needs.
+static IN_VAIN: [Run; 7] = [
     (
         "program action a when true move pull tail 3 end",
         &[
@@ -221,16 +235,10 @@ static MOVEMENTS: [Run; 20] = [
         &[(0, Failed(NoChoice))],
         &[((3, 3), (3, 3), 0, Plus, [0, 0, 0])],
     ),
-    (
-        "program action a when true end",
-        &[((3, 3), (3, 3), 0, Plus, [0, 0, 0])],
-        &[(0, Done("0 none")), (0, Done("0 none"))],
-        &[((3, 3), (3, 3), 0, Plus, [0, 0, 0])],
-    ),
 ];
 
-/// Writes, and the order of their failures.
-static WRITES: [Run; 13] = [
+/// Writes, and the values that they leave.
+static VALUES: [Run; 6] = [
     // both ports lead to (2, 4)
     (
         "program var m 3 action a when true do head 2 . m := 1 ; tail 1 . m := head 2 . m + 1 end",
@@ -279,6 +287,10 @@ static WRITES: [Run; 13] = [
         &[(0, Done("0 none"))],
         &[((2, 3), (2, 3), 0, Plus, [3, 0, 0])],
     ),
+];
+
+/// More writes, and the order of their failures.
+static WRITES: [Run; 7] = [
     // a later write fails, and the earlier one is undone
     (
         "program var m 4 action a when true do m := 1 ; m := 5 end",
@@ -343,8 +355,8 @@ static WRITES: [Run; 13] = [
     ),
 ];
 
-/// `let`, `if` and `for`.
-static STATEMENTS: [Run; 12] = [
+/// `let` and `if`.
+static STATEMENTS: [Run; 6] = [
     // a name is in force in the movement
     (
         "program var m 9 action a when true do let q := head 1 ; m := 1 move expand q end",
@@ -395,6 +407,10 @@ static STATEMENTS: [Run; 12] = [
         &[(0, Failed(NoPort))],
         &[((3, 3), (3, 3), 0, Plus, [0, 0, 0])],
     ),
+];
+
+/// `for`.
+static LOOPS: [Run; 6] = [
     // the statements at the first port make the condition false at the second
     (
         "program var m 9 action a when true do for p in ports ( m = 0 ) do m := 1 ; p . m := 2 od end",
@@ -544,6 +560,21 @@ fn movements_are_made_or_fail_as_told(rt: HostRuntime) -> Result<(), Fail> {
 }
 
 #[test]
+fn the_guard_stands_before_contractions_alone(rt: HostRuntime) -> Result<(), Fail> {
+    are_run(&rt, rt.alloc(), &GUARDED)
+}
+
+#[test]
+fn movements_without_what_they_need_fail(rt: HostRuntime) -> Result<(), Fail> {
+    are_run(&rt, rt.alloc(), &IN_VAIN)
+}
+
+#[test]
+fn writes_leave_these_values(rt: HostRuntime) -> Result<(), Fail> {
+    are_run(&rt, rt.alloc(), &VALUES)
+}
+
+#[test]
 fn writes_are_made_or_fail_in_this_order(rt: HostRuntime) -> Result<(), Fail> {
     are_run(&rt, rt.alloc(), &WRITES)
 }
@@ -551,6 +582,11 @@ fn writes_are_made_or_fail_in_this_order(rt: HostRuntime) -> Result<(), Fail> {
 #[test]
 fn statements_are_run_one_after_the_other(rt: HostRuntime) -> Result<(), Fail> {
     are_run(&rt, rt.alloc(), &STATEMENTS)
+}
+
+#[test]
+fn the_statements_of_a_for_are_run_port_by_port(rt: HostRuntime) -> Result<(), Fail> {
+    are_run(&rt, rt.alloc(), &LOOPS)
 }
 
 #[test]

@@ -4,8 +4,8 @@ use crate::journals::{JOURNALS, Journal, LONG_JOURNALS};
 use crate::least_versions::{LEAST_VERSIONS, LeastRow};
 use crate::limits::LIMITS;
 use crate::lists::LISTS_AND_SCHEDULES;
-use crate::old_values::{HEAD_3, OLD_VALUES, ONE_ENTRY_TOO_MANY, Valued};
-use crate::pieces::{Expected, FINAL, HEAD, LISTS, Long, PROGRAM, Row, SHAPE};
+use crate::old_values::{OLD_VALUES, ONE_ENTRY_TOO_MANY, Valued};
+use crate::pieces::{Expected, Row, document};
 use crate::programs::{HEADERS_AND_PROGRAMS, PROGRAM_LIMITS};
 use crate::runs::{CUTS, WORKED};
 use crate::shapes::SHAPES;
@@ -134,38 +134,10 @@ fn walled_answer(
     }
 }
 
-fn joined(alloc: Global, pieces: &[&str]) -> Result<String, AllocError> {
-    let mut text = String::new(alloc);
-    for piece in pieces {
-        text.push_str(piece)?;
-    }
-    Ok(text)
-}
-
 /// Each document of a table is read or refused as the table says.
-fn are_read(rt: &impl Abort, alloc: Global, table: &[Row]) -> Result<(), AllocError> {
-    for (form, pieces, expected) in table {
-        let text = joined(alloc, pieces)?;
-        let found = answer(alloc, text.as_bytes(), *form)?;
-        assert!(rt; found == *expected, "{text}");
-    }
-    Ok(())
-}
-
-fn repeated(alloc: Global, pieces: &[(&str, u32)]) -> Result<String, AllocError> {
-    let mut text = String::new(alloc);
-    for (piece, times) in pieces {
-        for _ in 0..*times {
-            text.push_str(piece)?;
-        }
-    }
-    Ok(text)
-}
-
-/// Each long document of a table is read or refused as the table says.
-fn are_limited(rt: &impl Abort, alloc: Global, table: &[Long]) -> Result<(), AllocError> {
-    for (form, pieces, expected) in table {
-        let text = repeated(alloc, pieces)?;
+fn are_read(rt: &impl Abort, alloc: Global, table: &[Row]) -> Result<(), Fail> {
+    for (form, template, expected) in table {
+        let text = document(alloc, template)?;
         let found = answer(alloc, text.as_bytes(), *form)?;
         assert!(rt; found == *expected, "{text}");
     }
@@ -174,46 +146,40 @@ fn are_limited(rt: &impl Abort, alloc: Global, table: &[Long]) -> Result<(), All
 
 #[test]
 fn limits_are_kept_exactly(rt: HostRuntime) -> Result<(), Fail> {
-    are_limited(&rt, rt.alloc(), &LIMITS)?;
-    Ok(())
+    are_read(&rt, rt.alloc(), &LIMITS)
 }
 
 #[test]
 fn runs_are_read(rt: HostRuntime) -> Result<(), Fail> {
-    are_read(&rt, rt.alloc(), &RUN_FORMS)?;
-    Ok(())
+    are_read(&rt, rt.alloc(), &RUN_FORMS)
 }
 
 #[test]
 fn other_forms_are_read(rt: HostRuntime) -> Result<(), Fail> {
-    are_read(&rt, rt.alloc(), &OTHER_FORMS)?;
-    Ok(())
+    are_read(&rt, rt.alloc(), &OTHER_FORMS)
 }
 
 #[test]
 fn replays_are_read(rt: HostRuntime) -> Result<(), Fail> {
-    are_read(&rt, rt.alloc(), &REPLAY_FORMS)?;
-    Ok(())
+    are_read(&rt, rt.alloc(), &REPLAY_FORMS)
 }
 
 #[test]
 fn headers_and_programs_are_read(rt: HostRuntime) -> Result<(), Fail> {
-    are_read(&rt, rt.alloc(), &HEADERS_AND_PROGRAMS)?;
-    Ok(())
+    are_read(&rt, rt.alloc(), &HEADERS_AND_PROGRAMS)
 }
 
 #[test]
 fn shapes_are_read(rt: HostRuntime) -> Result<(), Fail> {
-    are_read(&rt, rt.alloc(), &SHAPES)?;
-    Ok(())
+    are_read(&rt, rt.alloc(), &SHAPES)
 }
 
 #[test]
 fn documents_with_walls_are_read(rt: HostRuntime) -> Result<(), Fail> {
     let alloc = rt.alloc();
     let table: &[Walled] = &WALLS;
-    for (form, pieces, expected) in table {
-        let text = joined(alloc, pieces)?;
+    for (form, template, expected) in table {
+        let text = document(alloc, template)?;
         let found = walled_answer(alloc, text.as_bytes(), *form)?;
         assert!(&rt; found == *expected, "{text}");
     }
@@ -224,10 +190,7 @@ fn documents_with_walls_are_read(rt: HostRuntime) -> Result<(), Fail> {
 #[test]
 fn a_full_area_is_read(rt: HostRuntime) -> Result<(), Fail> {
     let alloc = rt.alloc();
-    let mut text = joined(
-        alloc,
-        &["amoebot 2\n", PROGRAM, "shape\narea 0 0 128 128\n"],
-    )?;
+    let mut text = document(alloc, "{HEAD_2}{PROGRAM}shape\narea 0 0 128 128\n")?;
     for y in 0..128 {
         for x in 0..128 {
             let line = format!(in alloc; "wall {x} {y}\n")?;
@@ -241,22 +204,20 @@ fn a_full_area_is_read(rt: HostRuntime) -> Result<(), Fail> {
 
 #[test]
 fn lists_and_schedules_are_read(rt: HostRuntime) -> Result<(), Fail> {
-    are_read(&rt, rt.alloc(), &LISTS_AND_SCHEDULES)?;
-    Ok(())
+    are_read(&rt, rt.alloc(), &LISTS_AND_SCHEDULES)
 }
 
 #[test]
 fn journals_are_read(rt: HostRuntime) -> Result<(), Fail> {
-    are_read(&rt, rt.alloc(), &JOURNALS)?;
-    Ok(())
+    are_read(&rt, rt.alloc(), &JOURNALS)
 }
 
 #[test]
 fn journals_are_read_by_their_version(rt: HostRuntime) -> Result<(), Fail> {
     let alloc = rt.alloc();
     let table: &[Valued] = &OLD_VALUES;
-    for (form, pieces, expected) in table {
-        let text = joined(alloc, pieces)?;
+    for (form, template, expected) in table {
+        let text = document(alloc, template)?;
         let found = valued_answer(alloc, text.as_bytes(), *form, 1)?;
         assert!(&rt; found == *expected, "{text}");
     }
@@ -267,8 +228,8 @@ fn journals_are_read_by_their_version(rt: HostRuntime) -> Result<(), Fail> {
 fn documents_before_the_least_version_are_refused(rt: HostRuntime) -> Result<(), Fail> {
     let alloc = rt.alloc();
     let table: &[LeastRow] = &LEAST_VERSIONS;
-    for (least, form, pieces, expected) in table {
-        let text = joined(alloc, pieces)?;
+    for (least, form, template, expected) in table {
+        let text = document(alloc, template)?;
         let found = answer_from(alloc, text.as_bytes(), *form, *least)?;
         assert!(&rt; found == *expected, "{text}");
     }
@@ -284,8 +245,8 @@ fn is_of_version_3(text: &str) -> bool {
 fn only_journals_with_old_values_are_read_from_version_3_on(rt: HostRuntime) -> Result<(), Fail> {
     let alloc = rt.alloc();
     let table: &[Valued] = &OLD_VALUES;
-    for (form, pieces, expected) in table {
-        let text = joined(alloc, pieces)?;
+    for (form, template, expected) in table {
+        let text = document(alloc, template)?;
         let expected = if is_of_version_3(text.as_str()) {
             *expected
         } else {
@@ -299,51 +260,38 @@ fn only_journals_with_old_values_are_read_from_version_3_on(rt: HostRuntime) -> 
 
 #[test]
 fn a_run_and_its_changes_are_read(rt: HostRuntime) -> Result<(), Fail> {
-    are_read(&rt, rt.alloc(), &WORKED)?;
-    Ok(())
+    are_read(&rt, rt.alloc(), &WORKED)
 }
 
 #[test]
 fn the_first_of_two_faults_is_told(rt: HostRuntime) -> Result<(), Fail> {
-    are_read(&rt, rt.alloc(), &TWO_FAULTS)?;
-    Ok(())
+    are_read(&rt, rt.alloc(), &TWO_FAULTS)
 }
 
 #[test]
 fn a_bad_byte_is_one_where_a_section_begins(rt: HostRuntime) -> Result<(), Fail> {
-    are_read(&rt, rt.alloc(), &BAD_BYTES)?;
-    Ok(())
+    are_read(&rt, rt.alloc(), &BAD_BYTES)
 }
 
 #[test]
 fn limits_of_programs_are_kept_exactly(rt: HostRuntime) -> Result<(), Fail> {
-    are_limited(&rt, rt.alloc(), &PROGRAM_LIMITS)?;
-    Ok(())
+    are_read(&rt, rt.alloc(), &PROGRAM_LIMITS)
 }
 
 /// The text of a document with this header, so many entries that do nothing, and this behind them.
-fn with_entries(
-    alloc: Global,
-    head: &str,
-    entries: u32,
-    behind: &str,
-) -> Result<String, AllocError> {
-    let mut text = joined(alloc, &[head, PROGRAM, SHAPE, "journal\n"])?;
+fn with_entries(alloc: Global, head: &str, entries: u32, behind: &str) -> Result<String, Fail> {
+    let mut text = document(alloc, head)?;
+    text.push_str(&document(alloc, "{PROGRAM}{SHAPE}journal\n")?)?;
     for place in 0..entries {
         let entry = format!(in alloc; "entry {place} 0 0 0 0 none\n")?;
         text.push_str(&entry)?;
     }
     text.push_str(behind)?;
-    text.push_str(FINAL)?;
+    text.push_str(&document(alloc, "{FINAL}")?)?;
     Ok(text)
 }
 
-fn have_entries(
-    rt: &impl Abort,
-    alloc: Global,
-    head: &str,
-    table: &[Journal],
-) -> Result<(), AllocError> {
+fn have_entries(rt: &impl Abort, alloc: Global, head: &str, table: &[Journal]) -> Result<(), Fail> {
     for (entries, behind, expected) in table {
         let text = with_entries(alloc, head, *entries, behind)?;
         let found = answer(alloc, text.as_bytes(), Form::Replay)?;
@@ -354,14 +302,12 @@ fn have_entries(
 
 #[test]
 fn a_document_has_at_most_65536_entries(rt: HostRuntime) -> Result<(), Fail> {
-    have_entries(&rt, rt.alloc(), HEAD, &LONG_JOURNALS)?;
-    Ok(())
+    have_entries(&rt, rt.alloc(), "{HEAD}", &LONG_JOURNALS)
 }
 
 #[test]
 fn a_journal_with_old_values_has_no_more(rt: HostRuntime) -> Result<(), Fail> {
-    have_entries(&rt, rt.alloc(), HEAD_3, &ONE_ENTRY_TOO_MANY)?;
-    Ok(())
+    have_entries(&rt, rt.alloc(), "{HEAD_3}", &ONE_ENTRY_TOO_MANY)
 }
 
 /// What is refused of the text before each byte of these lines, and that the whole text is a document.
@@ -407,7 +353,7 @@ fn expect_parts(rt: &impl Abort, parts: &Parts) {
 
 #[test]
 fn a_document_gives_its_parts(rt: HostRuntime) -> Result<(), Fail> {
-    let text = joined(rt.alloc(), &[HEAD, PROGRAM, SHAPE, LISTS])?;
+    let text = document(rt.alloc(), "{HEAD}{PROGRAM}{SHAPE}{LISTS}")?;
     assert!(rt; text.len() <= 1000);
     let found = read_sections(rt.alloc(), text.as_bytes(), Form::Run)
         .ok()
