@@ -1,10 +1,7 @@
 //! Documents of the other commands with what is written of them, programs that are shown, and words that are no command.
 
 use amoebot_run::Status::{Differs, Done};
-use shared_tests::pieces::{
-    DRAG, DRAGGED_EXCHANGED, DRAGGED_FINAL, DRAGGED_JOURNAL, EXPANDED, FAR, FAR_EXCHANGED,
-    FAR_FINAL, FAR_JOURNAL, MARK, NO_ENTRY, ONE, ONE_EACH, OUT, Row, TRAILED_0, TWO, TWO_EACH,
-};
+use shared_tests::pieces::Row;
 
 /// The name of each shipped program, and its text in the canonical form.
 pub static SHOWN: [(&str, &str); 3] = [
@@ -67,151 +64,112 @@ pub static SHOWN: [(&str, &str); 3] = [
     ),
 ];
 
-/// Words that are no command.
-pub static NO_COMMANDS: [&[&str]; 66] = [
-    &[],
-    &[""],
-    &["Run"],
-    &["RUN"],
-    &["Interleave"],
-    &["replaY"],
-    &["Check"],
-    &["MEASURE"],
-    &[" run"],
-    &["run "],
-    &["re play"],
-    &["walk"],
-    &["runs"],
-    &["-"],
-    &["--"],
-    &["-h"],
-    &["--help"],
-    &["-run"],
-    &["run", "now"],
-    &["run", "run"],
-    &["interleave", "1"],
-    &["replay", "-"],
-    &["check", ""],
-    &["measure", "--help"],
-    &["--", "run"],
-    &["show"],
-    &["Show", "line"],
-    &["SHOW", "line"],
-    &["show", "Hexagon"],
-    &["show", "EROSION"],
-    &["show", ""],
-    &["show", " line"],
-    &["show", "line "],
-    &["show", "lin"],
-    &["show", "shape"],
-    &["show", "-line"],
-    &["show", "--help"],
-    &["show", "line", "erosion"],
-    &["show", "show"],
-    &["hexagon"],
-    &["line", "show"],
-    &["sample"],
-    &["sample", ""],
-    &["sample", "-1"],
-    &["sample", "12345678901"],
-    &["sample", "1", "2"],
-    &["Renew"],
-    &["RENEW"],
-    &["renewed"],
-    &["-renew"],
-    &["renew", "x"],
-    &["renew", "-1"],
-    &["renew", "renew"],
-    &["Rounds"],
-    &["round"],
-    &["rounds", "1"],
-    &["-rounds"],
-    &["Elect"],
-    &["elects"],
-    &["elect", "erosion"],
-    &["elect", "elect"],
-    &["Tickets"],
-    &["ticket"],
-    &["-tickets"],
-    &["tickets", "now"],
-    &["run", "tickets"],
-];
+/// Words that are no command, a row a line. Each word has a bar before it.
+pub static NO_COMMANDS: &str = "\n\
+    |\n\
+    |Run\n\
+    |RUN\n\
+    |Interleave\n\
+    |replaY\n\
+    |Check\n\
+    |MEASURE\n\
+    | run\n\
+    |run \n\
+    |re play\n\
+    |walk\n\
+    |runs\n\
+    |-\n\
+    |--\n\
+    |-h\n\
+    |--help\n\
+    |-run\n\
+    |run|now\n\
+    |run|run\n\
+    |interleave|1\n\
+    |replay|-\n\
+    |check|\n\
+    |measure|--help\n\
+    |--|run\n\
+    |show\n\
+    |Show|line\n\
+    |SHOW|line\n\
+    |show|Hexagon\n\
+    |show|EROSION\n\
+    |show|\n\
+    |show| line\n\
+    |show|line \n\
+    |show|lin\n\
+    |show|shape\n\
+    |show|-line\n\
+    |show|--help\n\
+    |show|line|erosion\n\
+    |show|show\n\
+    |hexagon\n\
+    |line|show\n\
+    |sample\n\
+    |sample|\n\
+    |sample|-1\n\
+    |sample|12345678901\n\
+    |sample|1|2\n\
+    |Renew\n\
+    |RENEW\n\
+    |renewed\n\
+    |-renew\n\
+    |renew|x\n\
+    |renew|-1\n\
+    |renew|renew\n\
+    |Rounds\n\
+    |round\n\
+    |rounds|1\n\
+    |-rounds\n\
+    |Elect\n\
+    |elects\n\
+    |elect|erosion\n\
+    |elect|elect\n\
+    |Tickets\n\
+    |ticket\n\
+    |-tickets\n\
+    |tickets|now\n\
+    |run|tickets\n";
 
 /// Steps of two callers by schedules.
 pub static INTERLEAVINGS: [Row; 4] = [
     // Caller 0 has its body and seven nodes when caller 1 wins its body and finds (3, 3) held.
     (
         "interleave",
-        &[
-            MARK,
-            TWO,
-            TWO_EACH,
-            "schedule 0 times 8 1 times 4 0 times 12 1 times 20 end\n",
-        ],
+        "{MARK}{TWO}{TWO_EACH}schedule 0 times 8 1 times 4 0 times 12 1 times 20 end\n",
         Done,
         Some(2),
-        &[
-            "journal\n\
-            entry 0 0 0 0 0 none body 0 2 3 2 3 0 + 1\n\
-            entry 1 1 1 1 0 none body 1 3 3 3 3 0 + 1\n\
-            end\n",
-            "final\narea 0 0 8 8\nbot 2 3 2 3 0 + 1\nbot 3 3 3 3 0 + 1\nend\n",
-            "turns\n\
-            turn 0 0 done 0\n\
-            turn 0 1 idle 2\n\
-            turn 1 0 busy spot 3 3 by 0 0 0 place 0\n\
-            turn 1 1 done 1\n\
-            end\n",
-        ],
+        "journal\nentry 0 0 0 0 0 none body 0 2 3 2 3 0 + 1\nentry 1 1 1 1 0 none body 1 3 3 3 3 0 + 1\nend\n\
+        final\narea 0 0 8 8\nbot 2 3 2 3 0 + 1\nbot 3 3 3 3 0 + 1\nend\n\
+        turns\nturn 0 0 done 0\nturn 0 1 idle 2\nturn 1 0 busy spot 3 3 by 0 0 0 place 0\nturn 1 1 done 1\nend\n",
     ),
     // Each finds what the other holds.
     (
         "interleave",
-        &[MARK, TWO, ONE_EACH, "schedule 0 times 2 1 times 6 0 end\n"],
+        "{MARK}{TWO}{ONE_EACH}schedule 0 times 2 1 times 6 0 end\n",
         Done,
         Some(0),
-        &[
-            NO_ENTRY,
-            "final\narea 0 0 8 8\nbot 2 3 2 3 0 + 0\nbot 3 3 3 3 0 + 0\nend\n",
-            "turns\n\
-            turn 0 0 busy spot 3 3 by 1 0 1 place 0\n\
-            turn 1 0 busy spot 2 3 by 0 0 0 place 0\n\
-            end\n",
-        ],
+        "{NO_ENTRY}\
+        final\narea 0 0 8 8\nbot 2 3 2 3 0 + 0\nbot 3 3 3 3 0 + 0\nend\n\
+        turns\nturn 0 0 busy spot 3 3 by 1 0 1 place 0\nturn 1 0 busy spot 2 3 by 0 0 0 place 0\nend\n",
     ),
     // The second turn of caller 1 finds its amoebot expanded, with the larger zone.
     (
         "interleave",
-        &[
-            DRAG,
-            TRAILED_0,
-            TWO_EACH,
-            "schedule 1 times 19 0 times 26 1 times 26 end\n",
-        ],
+        "{DRAG}{TRAILED_0}{TWO_EACH}schedule 1 times 19 0 times 26 1 times 26 end\n",
         Done,
         Some(2),
-        &[
-            DRAGGED_JOURNAL,
-            DRAGGED_FINAL,
-            "turns\n\
-            turn 0 0 done 0\n\
-            turn 0 1 idle 2\n\
-            turn 1 0 idle 0\n\
-            turn 1 1 done 1\n\
-            end\n",
-        ],
+        "{DRAGGED_JOURNAL}{DRAGGED_FINAL}\
+        turns\nturn 0 0 done 0\nturn 0 1 idle 2\nturn 1 0 idle 0\nturn 1 1 done 1\nend\n",
     ),
     // The second caller commits first.
     (
         "interleave",
-        &[OUT, FAR, ONE_EACH, "schedule 1 times 10 end\n"],
+        "{OUT}{FAR}{ONE_EACH}schedule 1 times 10 end\n",
         Done,
         Some(2),
-        &[
-            FAR_JOURNAL,
-            FAR_FINAL,
-            "turns\nturn 0 0 done 1\nturn 1 0 done 0\nend\n",
-        ],
+        "{FAR_JOURNAL}{FAR_FINAL}turns\nturn 0 0 done 1\nturn 1 0 done 0\nend\n",
     ),
 ];
 
@@ -219,59 +177,42 @@ pub static INTERLEAVINGS: [Row; 4] = [
 pub static COMPARED_AND_CHECKED: [Row; 5] = [
     (
         "replay",
-        &[OUT, FAR, FAR_JOURNAL, FAR_FINAL],
+        "{OUT}{FAR}{FAR_JOURNAL}{FAR_FINAL}",
         Done,
         None,
-        &["agrees 2\n"],
+        "agrees 2\n",
     ),
     // What is far apart may happen in either order.
     (
         "replay",
-        &[OUT, FAR, FAR_EXCHANGED, FAR_FINAL],
+        "{OUT}{FAR}{FAR_EXCHANGED}{FAR_FINAL}",
         Done,
         None,
-        &["agrees 2\n"],
+        "agrees 2\n",
     ),
     (
         "replay",
-        &[DRAG, TRAILED_0, DRAGGED_EXCHANGED, DRAGGED_FINAL],
+        "{DRAG}{TRAILED_0}{DRAGGED_EXCHANGED}{DRAGGED_FINAL}",
         Differs(0),
         None,
-        &["differs 0\n"],
+        "differs 0\n",
     ),
     // The last shape is that of the start.
     (
         "replay",
-        &[
-            OUT,
-            ONE,
-            EXPANDED,
-            "final\narea 0 0 8 8\nbot 2 3 2 3 0 +\nend\n",
-        ],
+        "{OUT}{ONE}{EXPANDED}final\narea 0 0 8 8\nbot 2 3 2 3 0 +\nend\n",
         Differs(1),
         None,
-        &["differs 1\n"],
+        "differs 1\n",
     ),
     (
         "check",
-        &[
-            "amoebot 1 program\n\
-            var  m 3 action a when(m=0 or m=1)and not contracted\n\
-            do m:=m+1;if m>2 then m:=0 fi move contract tail end\n",
-        ],
+        "amoebot 1 program\nvar  m 3 action a when(m=0 or m=1)and not contracted\n\
+        do m:=m+1;if m>2 then m:=0 fi move contract tail end\n",
         Done,
         None,
-        &[
-            "amoebot 1\n\
-            program\n\
-            guard off\n\
-            var m 3\n\
-            action a\n\
-            when ( m = 0 or m = 1 ) and not contracted\n\
-            do m := m + 1 ; if m > 2 then m := 0 fi\n\
-            move contract tail\n\
-            end\n",
-        ],
+        "amoebot 1\nprogram\nguard off\nvar m 3\naction a\nwhen ( m = 0 or m = 1 ) and not contracted\n\
+        do m := m + 1 ; if m > 2 then m := 0 fi\nmove contract tail\nend\n",
     ),
 ];
 
@@ -279,47 +220,39 @@ pub static COMPARED_AND_CHECKED: [Row; 5] = [
 pub static MEASURED: [Row; 5] = [
     (
         "measure",
-        &[OUT, ONE],
+        "{OUT}{ONE}",
         Done,
         None,
-        &["bots 1\nconnected yes\nhexagon yes\n"],
+        "bots 1\nconnected yes\nhexagon yes\n",
     ),
     (
         "measure",
-        &[OUT, "shape\narea 0 0 8 8\nend\n"],
+        "{OUT}shape\narea 0 0 8 8\nend\n",
         Done,
         None,
-        &["bots 0\nconnected yes\nhexagon no\n"],
+        "bots 0\nconnected yes\nhexagon no\n",
     ),
     (
         "measure",
-        &[OUT, FAR],
+        "{OUT}{FAR}",
         Done,
         None,
-        &["bots 2\nconnected no\nhexagon no\n"],
+        "bots 2\nconnected no\nhexagon no\n",
     ),
     // The last shape counts, in which the amoebot is expanded.
     (
         "measure",
-        &[
-            OUT,
-            ONE,
-            EXPANDED,
-            "final\narea 0 0 8 8\nbot 3 3 2 3 0 +\nend\n",
-        ],
+        "{OUT}{ONE}{EXPANDED}final\narea 0 0 8 8\nbot 3 3 2 3 0 +\nend\n",
         Done,
         None,
-        &["bots 1\nconnected yes\nhexagon no\n"],
+        "bots 1\nconnected yes\nhexagon no\n",
     ),
     // Three that touch each other are a hexagon: one, and two of its ring in a row.
     (
         "measure",
-        &[
-            OUT,
-            "shape\narea 0 0 8 8\nbot 3 3 3 3 0 +\nbot 4 3 4 3 0 +\nbot 3 4 3 4 0 +\nend\n",
-        ],
+        "{OUT}shape\narea 0 0 8 8\nbot 3 3 3 3 0 +\nbot 4 3 4 3 0 +\nbot 3 4 3 4 0 +\nend\n",
         Done,
         None,
-        &["bots 3\nconnected yes\nhexagon yes\n"],
+        "bots 3\nconnected yes\nhexagon yes\n",
     ),
 ];

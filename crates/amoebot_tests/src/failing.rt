@@ -4,9 +4,8 @@ use crate::commands::{COMPARED_AND_CHECKED, INTERLEAVINGS, MEASURED, SHOWN};
 use crate::tests::{call, has_nothing, says};
 use amoebot_run::{Ended, Status};
 use outer_io::{Failed, MemSink, MemSource, Source, SureSink, SureSource};
-use shared_tests::calls::joined;
 use shared_tests::journals::{COUNTED, DIFFERENT, ELECTIONS, RENEWED, REWOUND, TO_START};
-use shared_tests::pieces::{Row, WORKED};
+use shared_tests::pieces::{Row, WORKED, spelled};
 use std::alloc::Global;
 use std::process::Abort;
 use std::sync::Wait;
@@ -126,8 +125,8 @@ fn check_each_call_by<R: Abort + Threads + Wait + Sync>(
     words: &[&str],
     row: &Row,
 ) -> Result<(), Fail> {
-    let document = joined(alloc, row.1)?;
-    let text = joined(alloc, row.4)?;
+    let document = spelled(alloc, row.1)?;
+    let text = spelled(alloc, row.4)?;
     let case = Case {
         words,
         document: document.as_str(),
@@ -159,8 +158,8 @@ fn each_failing_call_of_tickets_gives_its_status(rt: HostRuntime) -> Result<(), 
 
 #[test]
 fn a_sink_gets_what_it_has_room_for(rt: HostRuntime) -> Result<(), Fail> {
-    let document = joined(rt.alloc(), WORKED.1)?;
-    let text = joined(rt.alloc(), WORKED.4)?;
+    let document = spelled(rt.alloc(), WORKED.1)?;
+    let text = spelled(rt.alloc(), WORKED.4)?;
     let case = Case {
         words: &[WORKED.0],
         document: document.as_str(),
@@ -227,7 +226,7 @@ fn each_failing_call_of_a_check_gives_its_status(rt: HostRuntime) -> Result<(), 
 /// The third read fails, and then the second write: ten bytes went out before.
 #[test]
 fn the_third_read_fails_and_then_the_second_write(rt: HostRuntime) -> Result<(), Fail> {
-    let document = joined(rt.alloc(), WORKED.1)?;
+    let document = spelled(rt.alloc(), WORKED.1)?;
     let case = Case {
         words: &[WORKED.0],
         document: document.as_str(),

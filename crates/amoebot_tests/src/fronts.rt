@@ -6,9 +6,9 @@
 
 use crate::commands::{COMPARED_AND_CHECKED, INTERLEAVINGS, MEASURED, SHOWN};
 use amoebot_run::Status;
-use shared_tests::calls::{check, joined};
+use shared_tests::calls::check;
 use shared_tests::journals::{COUNTED, ELECTIONS, RENEWED, REWOUND, TO_START};
-use shared_tests::pieces::{Row, WORKED};
+use shared_tests::pieces::{Row, WORKED, spelled};
 use std::alloc::{AllocError, Global};
 use std::mem;
 use std::sync::Wait;
@@ -207,8 +207,8 @@ fn check_row_by<R: Threads + Wait + Sync>(
     row: &Row,
     ends: u32,
 ) -> Result<(), Fail> {
-    let document = joined(alloc, row.1)?;
-    let text = joined(alloc, row.4)?;
+    let document = spelled(alloc, row.1)?;
+    let text = spelled(alloc, row.4)?;
     let wholes = [(ends, row.2, row.3, text.as_str())];
     check_fronts(rt, alloc, words, document.as_str(), &wholes)
 }
@@ -270,8 +270,8 @@ fn fronts_of_an_election_end_before_its_last_shape(rt: HostRuntime) -> Result<()
 #[test]
 fn fronts_of_a_measured_document_may_end_behind_the_shape(rt: HostRuntime) -> Result<(), Fail> {
     let row = &MEASURED[3];
-    let document = joined(rt.alloc(), row.1)?;
-    let last = joined(rt.alloc(), row.4)?;
+    let document = spelled(rt.alloc(), row.1)?;
+    let last = spelled(rt.alloc(), row.4)?;
     let first = "bots 1\nconnected yes\nhexagon yes\n";
     let wholes = [
         (2, Status::Done, None, first),
@@ -283,7 +283,7 @@ fn fronts_of_a_measured_document_may_end_behind_the_shape(rt: HostRuntime) -> Re
 /// A program with a shape and lists behind it: each of these sections may be the last.
 #[test]
 fn fronts_of_a_checked_document_may_end_behind_each_section(rt: HostRuntime) -> Result<(), Fail> {
-    let document = joined(rt.alloc(), INTERLEAVINGS[0].1)?;
+    let document = spelled(rt.alloc(), INTERLEAVINGS[0].1)?;
     let text = "amoebot 1\nprogram\nguard off\nvar m 1\n\
         action mark\nwhen m = 0\ndo m := 1\nmove none\nend\n";
     let wholes = [

@@ -8,7 +8,7 @@ use activation::NoGate;
 use amoebot_run::{Ended, Status, run};
 use arrayvec::ArrayVec;
 use outer_io::{Failed, Sink, Source, SureSink, SureSource};
-use shared_tests::calls::{check, check_faults, check_rows, joined, words};
+use shared_tests::calls::{check, check_faults, check_rows, words, words_of};
 use shared_tests::pieces::USAGE;
 use std::alloc::{AllocError, Global};
 use std::process::Abort;
@@ -200,8 +200,9 @@ fn check_unread<R: Abort + Threads + Wait + Sync>(
 
 #[test]
 fn judges_the_words_before_it_reads(rt: HostRuntime) -> Result<(), Fail> {
-    for texts in &NO_COMMANDS {
-        check_unread(&rt, rt.alloc(), texts, Status::Words, USAGE)?;
+    for line in NO_COMMANDS.lines() {
+        let texts = words_of(rt.alloc(), line)?;
+        check_unread(&rt, rt.alloc(), texts.as_slice(), Status::Words, USAGE)?;
     }
     Ok(())
 }
@@ -226,13 +227,8 @@ fn a_sample_is_told_in_six_lines_and_nothing_is_read(rt: HostRuntime) -> Result<
             tickets,
         } = call(&rt, rt.alloc(), &["sample", number], &mut input, &mut out)?;
         assert!(rt; status == Status::Done);
-        let lines = joined(
-            rt.alloc(),
-            &[
-                line,
-                "bots 150\ncallers 4\nturns 16000\nconnected yes\nreplay yes\n",
-            ],
-        )?;
+        let mut lines = String::from_str(rt.alloc(), line)?;
+        lines.push_str("bots 150\ncallers 4\nturns 16000\nconnected yes\nreplay yes\n")?;
         assert!(rt; out.bytes() == lines.as_bytes());
         assert!(rt; is_unread(&mut input));
         assert!(rt; turns.is_some() && tickets.is_none());

@@ -5,8 +5,8 @@ use crate::runs::{RUNS, WHOLE_PROGRAMS};
 use crate::walls::{COMMANDS as WALLED, REFUSED};
 use amoebot_run::{Ended, Status, run_text};
 use outer_io::SureSink;
-use shared_tests::calls::{check, joined, words};
-use shared_tests::pieces::{Fault, ONE, OUT, Row, TWO_TURNS};
+use shared_tests::calls::{check, words};
+use shared_tests::pieces::{Fault, Row, spelled};
 use std::alloc::Global;
 use std::process::Abort;
 use std::sync::Wait;
@@ -20,10 +20,10 @@ fn check_rows_by_tickets<R: Threads + Wait + Sync>(
     alloc: Global,
     rows: &[Row],
 ) -> Result<(), Fail> {
-    for (word, pieces, status, entries, texts) in rows {
+    for (word, template, status, entries, text) in rows {
         if *word == "run" {
-            let document = joined(alloc, pieces)?;
-            let text = joined(alloc, texts)?;
+            let document = spelled(alloc, template)?;
+            let text = spelled(alloc, text)?;
             let bytes = document.as_bytes();
             check(
                 rt,
@@ -45,9 +45,9 @@ fn check_faults_by_tickets<R: Threads + Wait + Sync>(
     alloc: Global,
     faults: &[Fault],
 ) -> Result<(), Fail> {
-    for (word, pieces, line, kind, text) in faults {
+    for (word, template, line, kind, text) in faults {
         if *word == "run" {
-            let document = joined(alloc, pieces)?;
+            let document = spelled(alloc, template)?;
             let refusal = Refusal {
                 line: *line,
                 kind: *kind,
@@ -89,7 +89,7 @@ fn tickets_refuse_what_run_refuses(rt: HostRuntime) -> Result<(), Fail> {
 }
 
 /// A document for each of the words below.
-const SCHEDULED: &[&str] = &[OUT, ONE, TWO_TURNS, "schedule\nend\n"];
+const SCHEDULED: &str = "{OUT}{ONE}{TWO_TURNS}schedule\nend\n";
 
 /// Each word, whether turns come with it, and whether tickets do.
 static COMING: [(&str, bool, bool); 4] = [
@@ -122,7 +122,7 @@ fn check_coming<R: Abort + Threads + Wait + Sync>(
 
 #[test]
 fn tickets_come_with_tickets_alone(rt: HostRuntime) -> Result<(), Fail> {
-    let document = joined(rt.alloc(), SCHEDULED)?;
+    let document = spelled(rt.alloc(), SCHEDULED)?;
     for coming in &COMING {
         check_coming(&rt, rt.alloc(), document.as_str(), coming)?;
     }

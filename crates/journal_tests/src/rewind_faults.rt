@@ -2,150 +2,89 @@
 //! not, documents that are none, and words that are no command.
 
 use amoebot_run::Status::{self, Differs};
-use shared_tests::journals::{EXPANDED_3, EXPANDED_FINAL, OUT_RENEWED};
-use shared_tests::pieces::{NO_ENTRY, ONE};
 use text_tokens::RefusalKind::{
     self, BadEntry, BadPlace, BadRange, OutOfBox, Trailing, Truncated, Unexpected,
 };
 
-/// The number of a place, a document in pieces, the status, and the text in pieces.
-pub type Rewinding = (
-    &'static str,
-    &'static [&'static str],
-    Status,
-    &'static [&'static str],
-);
+/// The number of a place, a document, the status, and the text.
+pub type Rewinding = (&'static str, &'static str, Status, &'static str);
 
-/// The number of a place, a document in pieces, the line and the kind of the refusal, and its text.
-pub type Refused = (
-    &'static str,
-    &'static [&'static str],
-    u32,
-    RefusalKind,
-    &'static str,
-);
-
-/// The program of the worked example, behind its header. Six lines.
-pub const OUT_BODY: &str =
-    "program\nguard off\naction out\nwhen contracted\nmove expand head 0\nend\n";
-
-pub const STILL_FINAL: &str = "final\narea 0 0 8 8\nbot 2 3 2 3 0 +\nend\n";
+/// The number of a place, a document, the line and the kind of the refusal, and its text.
+pub type Refused = (&'static str, &'static str, u32, RefusalKind, &'static str);
 
 /// A last shape with another area, other walls or another number of amoebots differs at the number of entries.
 pub static OTHER_FRAMES: [Rewinding; 10] = [
     (
         "0",
-        &[
-            OUT_RENEWED,
-            "shape\narea 0 0 9 8\nbot 2 3 2 3 0 +\nend\n",
-            EXPANDED_3,
-            EXPANDED_FINAL,
-        ],
+        "{OUT_RENEWED}shape\narea 0 0 9 8\nbot 2 3 2 3 0 +\nend\n{EXPANDED_3}{EXPANDED_FINAL}",
         Differs(1),
-        &["differs 1\n"],
+        "differs 1\n",
     ),
     (
         "1",
-        &[
-            OUT_RENEWED,
-            "shape\narea 0 0 9 8\nbot 2 3 2 3 0 +\nend\n",
-            EXPANDED_3,
-            EXPANDED_FINAL,
-        ],
+        "{OUT_RENEWED}shape\narea 0 0 9 8\nbot 2 3 2 3 0 +\nend\n{EXPANDED_3}{EXPANDED_FINAL}",
         Differs(1),
-        &["differs 1\n"],
+        "differs 1\n",
     ),
     (
         "0",
-        &[
-            OUT_RENEWED,
-            "shape\narea 0 0 8 8\nbot 2 3 2 3 0 +\nbot 5 5 5 5 0 +\nend\n",
-            EXPANDED_3,
-            EXPANDED_FINAL,
-        ],
+        "{OUT_RENEWED}\
+        shape\narea 0 0 8 8\nbot 2 3 2 3 0 +\nbot 5 5 5 5 0 +\nend\n{EXPANDED_3}{EXPANDED_FINAL}",
         Differs(1),
-        &["differs 1\n"],
+        "differs 1\n",
     ),
     (
         "1",
-        &[
-            OUT_RENEWED,
-            "shape\narea 0 0 8 8\nbot 2 3 2 3 0 +\nbot 5 5 5 5 0 +\nend\n",
-            EXPANDED_3,
-            EXPANDED_FINAL,
-        ],
+        "{OUT_RENEWED}\
+        shape\narea 0 0 8 8\nbot 2 3 2 3 0 +\nbot 5 5 5 5 0 +\nend\n{EXPANDED_3}{EXPANDED_FINAL}",
         Differs(1),
-        &["differs 1\n"],
+        "differs 1\n",
     ),
     (
         "0",
-        &[
-            OUT_RENEWED,
-            "shape\narea 0 0 8 8\nwall 4 4\nbot 2 3 2 3 0 +\nend\n",
-            EXPANDED_3,
-            EXPANDED_FINAL,
-        ],
+        "{OUT_RENEWED}\
+        shape\narea 0 0 8 8\nwall 4 4\nbot 2 3 2 3 0 +\nend\n{EXPANDED_3}{EXPANDED_FINAL}",
         Differs(1),
-        &["differs 1\n"],
+        "differs 1\n",
     ),
     (
         "1",
-        &[
-            OUT_RENEWED,
-            "shape\narea 0 0 8 8\nwall 4 4\nbot 2 3 2 3 0 +\nend\n",
-            EXPANDED_3,
-            EXPANDED_FINAL,
-        ],
+        "{OUT_RENEWED}\
+        shape\narea 0 0 8 8\nwall 4 4\nbot 2 3 2 3 0 +\nend\n{EXPANDED_3}{EXPANDED_FINAL}",
         Differs(1),
-        &["differs 1\n"],
+        "differs 1\n",
     ),
     // As many walls, in another place.
     (
         "0",
-        &[
-            OUT_RENEWED,
-            "shape\narea 0 0 8 8\nwall 4 4\nbot 2 3 2 3 0 +\nend\n",
-            EXPANDED_3,
-            "final\narea 0 0 8 8\nwall 4 5\nbot 3 3 2 3 0 +\nend\n",
-        ],
+        "{OUT_RENEWED}\
+        shape\narea 0 0 8 8\nwall 4 4\nbot 2 3 2 3 0 +\nend\n{EXPANDED_3}\
+        final\narea 0 0 8 8\nwall 4 5\nbot 3 3 2 3 0 +\nend\n",
         Differs(1),
-        &["differs 1\n"],
+        "differs 1\n",
     ),
     // An area as large, from another corner on.
     (
         "0",
-        &[
-            OUT_RENEWED,
-            "shape\narea 1 0 8 8\nbot 2 3 2 3 0 +\nend\n",
-            EXPANDED_3,
-            EXPANDED_FINAL,
-        ],
+        "{OUT_RENEWED}shape\narea 1 0 8 8\nbot 2 3 2 3 0 +\nend\n{EXPANDED_3}{EXPANDED_FINAL}",
         Differs(1),
-        &["differs 1\n"],
+        "differs 1\n",
     ),
     // The entry is of an amoebot that the last shape has not.
     (
         "0",
-        &[
-            OUT_RENEWED,
-            "shape\narea 0 0 8 8\nbot 5 5 5 5 0 +\nbot 2 3 2 3 0 +\nend\n",
-            "journal\n\
-            entry 0 0 0 1 0 expand head 0 spot 3 3 empty to 1 body 1 2 3 2 3 0 + to 3 3 2 3 0 +\nend\n",
-            EXPANDED_FINAL,
-        ],
+        "{OUT_RENEWED}\
+        shape\narea 0 0 8 8\nbot 5 5 5 5 0 +\nbot 2 3 2 3 0 +\nend\n\
+        journal\nentry 0 0 0 1 0 expand head 0 spot 3 3 empty to 1 body 1 2 3 2 3 0 + to 3 3 2 3 0 +\nend\n{EXPANDED_FINAL}",
         Differs(1),
-        &["differs 1\n"],
+        "differs 1\n",
     ),
     (
         "0",
-        &[
-            OUT_RENEWED,
-            ONE,
-            NO_ENTRY,
-            "final\narea 0 0 8 8\nbot 2 3 2 3 0 +\nbot 5 5 5 5 0 +\nend\n",
-        ],
+        "{OUT_RENEWED}{ONE}{NO_ENTRY}\
+        final\narea 0 0 8 8\nbot 2 3 2 3 0 +\nbot 5 5 5 5 0 +\nend\n",
         Differs(0),
-        &["differs 0\n"],
+        "differs 0\n",
     ),
 ];
 
@@ -180,21 +119,21 @@ pub static TAMPERED: [&str; 14] = [
 pub static REFUSED: [Refused; 18] = [
     (
         "2",
-        &[OUT_RENEWED, ONE, EXPANDED_3, EXPANDED_FINAL],
+        "{OUT_RENEWED}{ONE}{EXPANDED_3}{EXPANDED_FINAL}",
         0,
         BadPlace,
         "refused 0 BadPlace\n",
     ),
     (
         "4294967295",
-        &[OUT_RENEWED, ONE, EXPANDED_3, EXPANDED_FINAL],
+        "{OUT_RENEWED}{ONE}{EXPANDED_3}{EXPANDED_FINAL}",
         0,
         BadPlace,
         "refused 0 BadPlace\n",
     ),
     (
         "1",
-        &[OUT_RENEWED, ONE, NO_ENTRY, STILL_FINAL],
+        "{OUT_RENEWED}{ONE}{NO_ENTRY}final\narea 0 0 8 8\nbot 2 3 2 3 0 +\nend\n",
         0,
         BadPlace,
         "refused 0 BadPlace\n",
@@ -202,12 +141,7 @@ pub static REFUSED: [Refused; 18] = [
     // The place is judged before the last shape.
     (
         "2",
-        &[
-            OUT_RENEWED,
-            "shape\narea 0 0 9 8\nbot 2 3 2 3 0 +\nend\n",
-            EXPANDED_3,
-            EXPANDED_FINAL,
-        ],
+        "{OUT_RENEWED}shape\narea 0 0 9 8\nbot 2 3 2 3 0 +\nend\n{EXPANDED_3}{EXPANDED_FINAL}",
         0,
         BadPlace,
         "refused 0 BadPlace\n",
@@ -215,7 +149,7 @@ pub static REFUSED: [Refused; 18] = [
     // And before the entries.
     (
         "2",
-        &[OUT_RENEWED, ONE, EXPANDED_3, STILL_FINAL],
+        "{OUT_RENEWED}{ONE}{EXPANDED_3}final\narea 0 0 8 8\nbot 2 3 2 3 0 +\nend\n",
         0,
         BadPlace,
         "refused 0 BadPlace\n",
@@ -223,108 +157,72 @@ pub static REFUSED: [Refused; 18] = [
     // Earlier versions, and later ones, before all that stands behind the number.
     (
         "9",
-        &[
-            "amoebot 1\n",
-            OUT_BODY,
-            ONE,
-            EXPANDED_3,
-            EXPANDED_FINAL,
-            "more\n",
-        ],
+        "amoebot 1\nprogram\nguard off\naction out\nwhen contracted\nmove expand head 0\nend\n\
+        {ONE}{EXPANDED_3}{EXPANDED_FINAL}more\n",
         1,
         BadRange,
         "refused 1 BadRange\n",
     ),
     (
         "9",
-        &[
-            "amoebot 2\n",
-            OUT_BODY,
-            ONE,
-            EXPANDED_3,
-            EXPANDED_FINAL,
-            "more\n",
-        ],
+        "amoebot 2\nprogram\nguard off\naction out\nwhen contracted\nmove expand head 0\nend\n\
+        {ONE}{EXPANDED_3}{EXPANDED_FINAL}more\n",
         1,
         BadRange,
         "refused 1 BadRange\n",
     ),
     (
         "9",
-        &[
-            "amoebot 4\n",
-            OUT_BODY,
-            ONE,
-            EXPANDED_3,
-            EXPANDED_FINAL,
-            "more\n",
-        ],
+        "amoebot 4\nprogram\nguard off\naction out\nwhen contracted\nmove expand head 0\nend\n\
+        {ONE}{EXPANDED_3}{EXPANDED_FINAL}more\n",
         1,
         BadRange,
         "refused 1 BadRange\n",
     ),
     (
         "0",
-        &[
-            "amoebot 1\n",
-            OUT_BODY,
-            ONE,
-            "journal\nentry 0 0 0 0 0 expand head 0 spot 3 3 0 body 0 3 3 2 3 0 +\nend\n",
-            EXPANDED_FINAL,
-        ],
+        "amoebot 1\nprogram\nguard off\naction out\nwhen contracted\nmove expand head 0\nend\n{ONE}\
+        journal\nentry 0 0 0 0 0 expand head 0 spot 3 3 0 body 0 3 3 2 3 0 +\nend\n{EXPANDED_FINAL}",
         1,
         BadRange,
         "refused 1 BadRange\n",
     ),
     (
         "0",
-        &["amoebot\n2\n", OUT_BODY, ONE, EXPANDED_3, EXPANDED_FINAL],
+        "amoebot\n2\nprogram\nguard off\naction out\nwhen contracted\nmove expand head 0\nend\n\
+        {ONE}{EXPANDED_3}{EXPANDED_FINAL}",
         2,
         BadRange,
         "refused 2 BadRange\n",
     ),
-    ("0", &["amoebot 2 $"], 1, BadRange, "refused 1 BadRange\n"),
-    ("0", &["amoebot"], 1, Truncated, "refused 1 Truncated\n"),
+    ("0", "amoebot 2 $", 1, BadRange, "refused 1 BadRange\n"),
+    ("0", "amoebot", 1, Truncated, "refused 1 Truncated\n"),
     // Faults of the document, before the place.
     (
         "9",
-        &[
-            OUT_RENEWED,
-            "shape\narea 0 0 8 8\nbot 9 9 9 9 0 +\nend\n",
-            EXPANDED_3,
-            EXPANDED_FINAL,
-        ],
+        "{OUT_RENEWED}shape\narea 0 0 8 8\nbot 9 9 9 9 0 +\nend\n{EXPANDED_3}{EXPANDED_FINAL}",
         10,
         OutOfBox,
         "refused 10 OutOfBox\n",
     ),
     (
         "9",
-        &[OUT_RENEWED, ONE, EXPANDED_3, EXPANDED_FINAL, "more\n"],
+        "{OUT_RENEWED}{ONE}{EXPANDED_3}{EXPANDED_FINAL}more\n",
         19,
         Trailing,
         "refused 19 Trailing\n",
     ),
     (
         "0",
-        &[
-            OUT_RENEWED,
-            ONE,
-            "journal\nentry 0 0 0 0 0 expand head 0 spot 3 3 0 body 0 3 3 2 3 0 +\nend\n",
-            EXPANDED_FINAL,
-        ],
+        "{OUT_RENEWED}{ONE}\
+        journal\nentry 0 0 0 0 0 expand head 0 spot 3 3 0 body 0 3 3 2 3 0 +\nend\n{EXPANDED_FINAL}",
         13,
         Unexpected,
         "refused 13 Unexpected\n",
     ),
     (
         "0",
-        &[
-            OUT_RENEWED,
-            ONE,
-            "journal\nentry 1 0 0 0 0 none\nend\n",
-            EXPANDED_FINAL,
-        ],
+        "{OUT_RENEWED}{ONE}journal\nentry 1 0 0 0 0 none\nend\n{EXPANDED_FINAL}",
         13,
         BadPlace,
         "refused 13 BadPlace\n",
@@ -332,37 +230,32 @@ pub static REFUSED: [Refused; 18] = [
     // The last shape has the amoebot of the entry, and the first one has not.
     (
         "0",
-        &[
-            OUT_RENEWED,
-            ONE,
-            "journal\nentry 0 0 0 1 0 none\nend\n",
-            "final\narea 0 0 8 8\nbot 2 3 2 3 0 +\nbot 5 5 5 5 0 +\nend\n",
-        ],
+        "{OUT_RENEWED}{ONE}\
+        journal\nentry 0 0 0 1 0 none\nend\n\
+        final\narea 0 0 8 8\nbot 2 3 2 3 0 +\nbot 5 5 5 5 0 +\nend\n",
         13,
         BadEntry,
         "refused 13 BadEntry\n",
     ),
     (
         "0",
-        &[OUT_RENEWED, ONE, EXPANDED_3],
+        "{OUT_RENEWED}{ONE}{EXPANDED_3}",
         15,
         Truncated,
         "refused 15 Truncated\n",
     ),
 ];
 
-/// Words that are no command.
-pub static NO_REWINDS: [&[&str]; 12] = [
-    &["rewind"],
-    &["rewind", ""],
-    &["rewind", "-1"],
-    &["rewind", "+1"],
-    &["rewind", "1.0"],
-    &["rewind", " 1"],
-    &["rewind", "4294967296"],
-    &["rewind", "00000000001"],
-    &["rewind", "0", "0"],
-    &["Rewind", "0"],
-    &["0", "rewind"],
-    &["rewind0"],
-];
+/// Words that are no command, a row a line. Each word has a bar before it.
+pub static NO_REWINDS: &str = "|rewind\n\
+    |rewind|\n\
+    |rewind|-1\n\
+    |rewind|+1\n\
+    |rewind|1.0\n\
+    |rewind| 1\n\
+    |rewind|4294967296\n\
+    |rewind|00000000001\n\
+    |rewind|0|0\n\
+    |Rewind|0\n\
+    |0|rewind\n\
+    |rewind0\n";

@@ -2,71 +2,40 @@
 
 use amoebot_run::Status::{Differs, Done};
 use shared_tests::calls::{check_faults, check_rows};
-use shared_tests::pieces::{Fault, ONE, OUT, Row, TWO_TURNS};
+use shared_tests::pieces::{Fault, Row};
 use std::test::Fail;
 use text_tokens::RefusalKind::{BadEntry, BadPlace};
 
-/// The entry stands on line 14.
-const ENTRY: &str = "entry 0 0 0 0 0 expand head 0 spot 3 3 0 body 0 3 3 2 3 0 +\n";
-
-/// What stands behind the entries.
-pub const REST: &str = "end\nfinal\narea 0 0 8 8\nbot 3 3 2 3 0 +\nend\n\
-    turns\nturn 0 0 done 0\nturn 0 1 idle 1\nend\n";
-
-/// Entries that name what is not there, or stand at another place.
+/// Entries that name what is not there, or stand at another place. The entry stands on line 14.
 pub static REFUSED: [Fault; 4] = [
     (
         "replay",
-        &[
-            OUT,
-            ONE,
-            TWO_TURNS,
-            "journal\n",
-            "entry 1 0 0 0 0 expand head 0 spot 3 3 0 body 0 3 3 2 3 0 +\n",
-            REST,
-        ],
+        "{OUT}{ONE}{TWO_TURNS}\
+        journal\nentry 1 0 0 0 0 expand head 0 spot 3 3 0 body 0 3 3 2 3 0 +\n{REST}",
         14,
         BadPlace,
         "refused 14 BadPlace\n",
     ),
     (
         "replay",
-        &[
-            OUT,
-            ONE,
-            TWO_TURNS,
-            "journal\n",
-            "entry 0 16 0 0 0 expand head 0 spot 3 3 0 body 0 3 3 2 3 0 +\n",
-            REST,
-        ],
+        "{OUT}{ONE}{TWO_TURNS}\
+        journal\nentry 0 16 0 0 0 expand head 0 spot 3 3 0 body 0 3 3 2 3 0 +\n{REST}",
         14,
         BadEntry,
         "refused 14 BadEntry\n",
     ),
     (
         "replay",
-        &[
-            OUT,
-            ONE,
-            TWO_TURNS,
-            "journal\n",
-            "entry 0 0 0 1 0 expand head 0 spot 3 3 0 body 0 3 3 2 3 0 +\n",
-            REST,
-        ],
+        "{OUT}{ONE}{TWO_TURNS}\
+        journal\nentry 0 0 0 1 0 expand head 0 spot 3 3 0 body 0 3 3 2 3 0 +\n{REST}",
         14,
         BadEntry,
         "refused 14 BadEntry\n",
     ),
     (
         "replay",
-        &[
-            OUT,
-            ONE,
-            TWO_TURNS,
-            "journal\n",
-            "entry 0 0 0 0 1 expand head 0 spot 3 3 0 body 0 3 3 2 3 0 +\n",
-            REST,
-        ],
+        "{OUT}{ONE}{TWO_TURNS}\
+        journal\nentry 0 0 0 0 1 expand head 0 spot 3 3 0 body 0 3 3 2 3 0 +\n{REST}",
         14,
         BadEntry,
         "refused 14 BadEntry\n",
@@ -77,94 +46,64 @@ pub static REFUSED: [Fault; 4] = [
 pub static COMPARED: [Row; 7] = [
     (
         "replay",
-        &[OUT, ONE, TWO_TURNS, "journal\n", ENTRY, REST],
+        "{OUT}{ONE}{TWO_TURNS}\
+        journal\nentry 0 0 0 0 0 expand head 0 spot 3 3 0 body 0 3 3 2 3 0 +\n{REST}",
         Done,
         None,
-        &["agrees 1\n"],
+        "agrees 1\n",
     ),
     // Another caller and turn. A journal says nothing of lists.
     (
         "replay",
-        &[
-            OUT,
-            ONE,
-            TWO_TURNS,
-            "journal\n",
-            "entry 0 3 9 0 0 expand head 0 spot 3 3 0 body 0 3 3 2 3 0 +\n",
-            REST,
-        ],
+        "{OUT}{ONE}{TWO_TURNS}\
+        journal\nentry 0 3 9 0 0 expand head 0 spot 3 3 0 body 0 3 3 2 3 0 +\n{REST}",
         Done,
         None,
-        &["agrees 1\n"],
+        "agrees 1\n",
     ),
     // Another rotation.
     (
         "replay",
-        &[
-            OUT,
-            ONE,
-            TWO_TURNS,
-            "journal\n",
-            "entry 0 0 0 0 0 expand head 0 spot 3 3 0 body 0 3 3 2 3 1 +\n",
-            REST,
-        ],
+        "{OUT}{ONE}{TWO_TURNS}\
+        journal\nentry 0 0 0 0 0 expand head 0 spot 3 3 0 body 0 3 3 2 3 1 +\n{REST}",
         Differs(0),
         None,
-        &["differs 0\n"],
+        "differs 0\n",
     ),
     // The two pairs, the other way round.
     (
         "replay",
-        &[
-            OUT,
-            ONE,
-            TWO_TURNS,
-            "journal\n",
-            "entry 0 0 0 0 0 expand head 0 body 0 3 3 2 3 0 + spot 3 3 0\n",
-            REST,
-        ],
+        "{OUT}{ONE}{TWO_TURNS}\
+        journal\nentry 0 0 0 0 0 expand head 0 body 0 3 3 2 3 0 + spot 3 3 0\n{REST}",
         Differs(0),
         None,
-        &["differs 0\n"],
+        "differs 0\n",
     ),
     // The first pair left out.
     (
         "replay",
-        &[
-            OUT,
-            ONE,
-            TWO_TURNS,
-            "journal\n",
-            "entry 0 0 0 0 0 expand head 0 body 0 3 3 2 3 0 +\n",
-            REST,
-        ],
+        "{OUT}{ONE}{TWO_TURNS}journal\nentry 0 0 0 0 0 expand head 0 body 0 3 3 2 3 0 +\n{REST}",
         Differs(0),
         None,
-        &["differs 0\n"],
+        "differs 0\n",
     ),
     // The entry a second time.
     (
         "replay",
-        &[
-            OUT,
-            ONE,
-            TWO_TURNS,
-            "journal\n",
-            ENTRY,
-            "entry 1 0 0 0 0 expand head 0 spot 3 3 0 body 0 3 3 2 3 0 +\n",
-            REST,
-        ],
+        "{OUT}{ONE}{TWO_TURNS}\
+        journal\nentry 0 0 0 0 0 expand head 0 spot 3 3 0 body 0 3 3 2 3 0 +\n\
+        entry 1 0 0 0 0 expand head 0 spot 3 3 0 body 0 3 3 2 3 0 +\n{REST}",
         Differs(1),
         None,
-        &["differs 1\n"],
+        "differs 1\n",
     ),
     // No entry.
     (
         "replay",
-        &[OUT, ONE, TWO_TURNS, "journal\n", REST],
+        "{OUT}{ONE}{TWO_TURNS}journal\n{REST}",
         Differs(0),
         None,
-        &["differs 0\n"],
+        "differs 0\n",
     ),
 ];
 

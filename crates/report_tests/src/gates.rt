@@ -6,7 +6,8 @@ use activation::Gate;
 use amoebot_run::{Ended, Status, run};
 use claim_core::Mark;
 use outer_io::{SureSink, SureSource};
-use shared_tests::calls::{joined, words};
+use shared_tests::calls::words;
+use shared_tests::pieces::spelled;
 use std::alloc::Global;
 use std::process::Abort;
 use std::sync::Wait;
@@ -23,7 +24,7 @@ fn two_meet<R: Abort + Threads + Wait + Sync>(
     alloc: Global,
     word: &str,
 ) -> Result<(), Fail> {
-    let document = joined(alloc, TWO_APART)?;
+    let document = spelled(alloc, TWO_APART)?;
     let gate = MeetGate::new(2, 50_000_000);
     let report = right_report(rt, alloc, word, document.as_str(), &gate)?;
     assert!(rt; gate.met() && report.journal.entries().len() == 2);

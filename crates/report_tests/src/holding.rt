@@ -4,7 +4,7 @@ use crate::meetings::{FOUR_APART, ON_THREADS};
 use crate::reports::right_report;
 use activation::Gate;
 use claim_core::{Mark, Marks};
-use shared_tests::calls::joined;
+use shared_tests::pieces::spelled;
 use std::alloc::Global;
 use std::process::Abort;
 use std::sync::Wait;
@@ -96,7 +96,7 @@ fn waits_for_nobody<R: Abort + Threads + Wait + Sync>(
     alloc: Global,
     word: &str,
 ) -> Result<(), Fail> {
-    let document = joined(alloc, FOUR_APART)?;
+    let document = spelled(alloc, FOUR_APART)?;
     let gate = LateGate::new();
     let report = right_report(rt, alloc, word, document.as_str(), &gate)?;
     assert!(rt; !gate.missed() && is_late(&report.turns));

@@ -10,7 +10,8 @@ use claim_core::Report;
 use claim_tests::is_report;
 use outer_io::SureSink;
 use shape_files::{Form, read_sections};
-use shared_tests::calls::{joined, words};
+use shared_tests::calls::words;
+use shared_tests::pieces::spelled;
 use shared_tests::replays::{Replayed, run_and_replay};
 use shipped_programs::HEXAGON;
 use std::alloc::{AllocError, Global};
@@ -80,8 +81,8 @@ pub(crate) fn check_reports<R: Abort + Threads + Wait + Sync>(
 /// Eighty runs by each word, of two, four and sixteen lists.
 #[test]
 fn reports_where_zones_meet_pass_the_checker_and_agree(rt: HostRuntime) -> Result<(), Fail> {
-    for pieces in MEETINGS {
-        let document = joined(rt.alloc(), pieces)?;
+    for template in MEETINGS {
+        let document = spelled(rt.alloc(), template)?;
         for time in 0..20 {
             check_reports(&rt, rt.alloc(), document.as_str(), time)?;
         }
@@ -90,7 +91,7 @@ fn reports_where_zones_meet_pass_the_checker_and_agree(rt: HostRuntime) -> Resul
 }
 
 /// Documents of sixteen callers, and how many entries there are at least and at most.
-static FOR_SIXTEEN: [(&[&str], usize, usize); 3] = [
+static FOR_SIXTEEN: [(&str, usize, usize); 3] = [
     // One of them marks the amoebot.
     (ONE_FOR_SIXTEEN, 1, 1),
     // They mark each amoebot at most once.
@@ -105,8 +106,8 @@ fn check_sixteen<R: Abort + Threads + Wait + Sync>(
     alloc: Global,
     word: &str,
 ) -> Result<(), Fail> {
-    for (pieces, least, most) in &FOR_SIXTEEN {
-        let document = joined(alloc, pieces)?;
+    for (template, least, most) in &FOR_SIXTEEN {
+        let document = spelled(alloc, template)?;
         let report = right_report(rt, alloc, word, document.as_str(), &NoGate)?;
         let entries = report.journal.entries().len();
         assert!(rt;
@@ -128,7 +129,8 @@ fn sixteen_callers_leave_right_reports(rt: HostRuntime) -> Result<(), Fail> {
 
 /// The document of 100 amoebots in a row, of which the first is the seed of a hexagon, in four lists of every fourth one.
 fn row_of_100(alloc: Global) -> Result<String, AllocError> {
-    let mut text = joined(alloc, &["amoebot 1\n", HEXAGON])?;
+    let mut text = String::from_str(alloc, "amoebot 1\n")?;
+    text.push_str(HEXAGON)?;
     text = text.replacen(alloc, "guard off", "guard on", 1)?;
     text.push_str("shape\narea 0 0 128 21\nbot 14 10 14 10 0 + 1 6 0\n")?;
     for x in 15..114 {

@@ -1,6 +1,6 @@
 //! Calls of `run_text`, and whether they answer what a row says.
 
-use crate::pieces::{Fault, Row};
+use crate::pieces::{Fault, Row, spelled};
 use amoebot_run::{Ended, Status, run_text};
 use outer_io::SureSink;
 use std::alloc::{AllocError, Global};
@@ -18,13 +18,15 @@ pub fn words(alloc: Global, texts: &[&str]) -> Result<Vec<String>, AllocError> {
     Ok(words)
 }
 
-/// The pieces as one text.
-pub fn joined(alloc: Global, pieces: &[&str]) -> Result<String, AllocError> {
-    let mut text = String::new(alloc);
-    for piece in pieces {
-        text.push_str(piece)?;
+/// The words of a line, each of which has a bar before it.
+pub fn words_of(alloc: Global, line: &'static str) -> Result<Vec<&'static str>, AllocError> {
+    let mut words = Vec::new(alloc);
+    let mut parts = line.split('|');
+    parts.next();
+    for part in parts {
+        words.push(part)?;
     }
-    Ok(text)
+    Ok(words)
 }
 
 /// How many entries the report has, if there is one.
@@ -68,9 +70,9 @@ pub fn check_rows<R: Threads + Wait + Sync>(
     alloc: Global,
     rows: &[Row],
 ) -> Result<(), Fail> {
-    for (word, pieces, status, entries, texts) in rows {
-        let document = joined(alloc, pieces)?;
-        let text = joined(alloc, texts)?;
+    for (word, template, status, entries, text) in rows {
+        let document = spelled(alloc, template)?;
+        let text = spelled(alloc, text)?;
         check(
             rt,
             alloc,
@@ -90,8 +92,8 @@ pub fn check_faults<R: Threads + Wait + Sync>(
     alloc: Global,
     faults: &[Fault],
 ) -> Result<(), Fail> {
-    for (word, pieces, line, kind, text) in faults {
-        let document = joined(alloc, pieces)?;
+    for (word, template, line, kind, text) in faults {
+        let document = spelled(alloc, template)?;
         let status = Status::Refused(Refusal {
             line: *line,
             kind: *kind,
