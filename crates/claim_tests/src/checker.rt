@@ -131,23 +131,34 @@ impl<D: Decider> Judge<'_, D> {
         if place > self.places() || place < self.seen_before(caller, turn) {
             return Ok(false);
         }
-        let Some(world) = self.world_at(alloc, place)? else {
-            return Ok(false);
-        };
+        match self.world_at(alloc, place)? {
+            Some(world) => self.is_right_in(alloc, &world, caller, turn, bot, mark),
+            None => Ok(false),
+        }
+    }
+
+    /// Whether the mark of a turn of an amoebot is right, which found this world.
+    fn is_right_in(
+        &self,
+        alloc: Global,
+        world: &World,
+        caller: u8,
+        turn: u32,
+        bot: u16,
+        mark: Mark,
+    ) -> Result<bool, Fail> {
         match mark {
             Mark::Done { place } => Ok(self.is_entry_of(place, caller, turn)),
-            Mark::Idle { .. } => Ok(decides(self.decider, &world, bot, None)),
-            Mark::Failed { failure, .. } => {
-                Ok(decides(self.decider, &world, bot, Some(failure)))
-            }
+            Mark::Idle { .. } => Ok(decides(self.decider, world, bot, None)),
+            Mark::Failed { failure, .. } => Ok(decides(self.decider, world, bot, Some(failure))),
             Mark::Busy {
                 cell,
                 by_caller,
                 by_turn,
                 by_bot,
-                ..
+                place,
             } => Ok(
-                zone_place(&world, bot, cell).is_some()
+                zone_place(world, bot, cell).is_some()
                     && self.bot(by_caller, by_turn) == Some(by_bot)
                     && self.can_meet(caller, turn, place, by_caller, by_turn)
                     && self.may_hold(alloc, by_caller, by_turn, by_bot, cell)?,

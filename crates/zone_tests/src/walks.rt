@@ -60,6 +60,15 @@ fn finished(field: &Field<'_, Idler>, mut walker: Walker) -> Result<Mark, Fail>
     }
 }
 
+/// The marks of both.
+fn both_finished(field: &Field<'_, Idler>, zero: Walker, one: Walker) -> Result<(Mark, Mark), Fail>
+    requires zero { IsWalker field.now zero }
+    requires one { IsWalker field.now one }
+{
+    let zero = finished(field, zero)?;
+    Ok((zero, finished(field, one)?))
+}
+
 /// The mark of a turn that holds its whole zone, which is freed.
 fn looked(field: &Field<'_, Idler>, held: Held<Idler>) -> Result<Mark, Fail>
     requires { IsOf field.now held }
@@ -229,8 +238,7 @@ fn agrees(
     let (zero, one) = walked(field, &mut core, walkers, count, word);
     stands(rt, field, &core, 0, &zero);
     stands(rt, field, &core, 1, &one);
-    let zero = finished(field, zero)?;
-    let one = finished(field, one)?;
+    let (zero, one) = both_finished(field, zero, one)?;
     steps(&mut core, 0, 12);
     steps(&mut core, 1, 12);
     has_marks(rt, core, zero, one)
@@ -271,10 +279,26 @@ fn seated(
     requires lists { field.now.terms.lists ≡ lists.now }
     requires few { steps.0 ≤ 8 }
 {
-    let zero = begun(field, lists, seat_of(field, seats, 0)?)?;
-    let one = begun(field, lists, seat_of(field, seats, 1)?)?;
+    let zero = started(field, lists, seats, 0)?;
+    let one = started(field, lists, seats, 1)?;
     let (count, word) = steps;
-    agrees(rt, field, core_of(alloc)?, (Ok(zero), Ok(one)), count, word)
+    agrees(rt, field, core_of(alloc)?, (zero, one), count, word)
+}
+
+/// The first turn of this caller, whose seat is the next one, has begun.
+fn started(
+    field: &Field<'_, Idler>,
+    lists: &Lists,
+    seats: &mut Seats<Idler>,
+    caller: u8,
+) -> Result<Walker, Fail>
+    requires of { AreOf field.now seats.old }
+    requires lists { field.now.terms.lists ≡ lists.now }
+    ensures walker { IfOk result (λ walker. IsWalker field.now walker) }
+    ensures rest { IfOk result (λ walker. AreOf field.now seats.new) }
+{
+    let seat = seat_of(field, seats, caller)?;
+    Ok(Ok(begun(field, lists, seat)?))
 }
 
 /// The same over a field of its own.
@@ -282,8 +306,23 @@ fn agree(rt: &impl Abort, alloc: Global, count: u32, word: u32) -> Result<(), Fa
     requires { count ≤ 8 }
 {
     let (world, lists) = two_beside(alloc)?;
-    let (field, mut seats) = field_of(alloc, &Idler, world, &lists)?;
-    seated(rt, alloc, &field, &lists, &mut seats, (count, word))
+    seated_in(rt, alloc, world, &lists, (count, word))
+}
+
+/// The same over a field of this world.
+fn seated_in(
+    rt: &impl Abort,
+    alloc: Global,
+    world: World,
+    lists: &Lists,
+    steps: (u32, u32),
+) -> Result<(), Fail>
+    requires some { 1 ≤ length lists.now.ids }
+    requires bots { All (All (λ id. IsSome (bot_at world id))) lists.now.ids }
+    requires few { steps.0 ≤ 8 }
+{
+    let (field, mut seats) = field_of(alloc, &Idler, world, lists)?;
+    seated(rt, alloc, &field, lists, &mut seats, steps)
 }
 
 /// Every interleaving of the claim steps of two zones of the same four cells, and every beginning of one.
