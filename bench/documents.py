@@ -170,6 +170,15 @@ def in_lists(text, callers):
     return front + "\n".join(["lists", f"turns {turns // callers}", *lists, "end"]) + "\n"
 
 
+def in_blocks(text, callers):
+    """The same with lists of ids that follow one another. In `line` these are rows, so amoebots of two lists seldom meet."""
+    front, back = text[:text.index("lists\n")], text[text.index("lists\n"):].splitlines()
+    turns, ids = int(back[1].split()[1]), back[2].split()[1:]
+    size = len(ids) // callers
+    lists = ["list " + " ".join(ids[caller * size:(caller + 1) * size]) for caller in range(callers)]
+    return front + "\n".join(["lists", f"turns {turns // callers}", *lists, "end"]) + "\n"
+
+
 def full_journal(version):
     """A run whose text is nearly as long as one can be: an expanded amoebot writes each value of its eight neighbours and of itself, in 65,536 turns.
 
