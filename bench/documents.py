@@ -171,7 +171,7 @@ def in_lists(text, callers):
 
 
 def in_blocks(text, callers):
-    """The same with lists of ids that follow one another. In `line` these are rows, so amoebots of two lists seldom meet."""
+    """The same with lists of ids that follow one another, which are rows of amoebots. So those of two lists seldom meet."""
     front, back = text[:text.index("lists\n")], text[text.index("lists\n"):].splitlines()
     turns, ids = int(back[1].split()[1]), back[2].split()[1:]
     size = len(ids) // callers
