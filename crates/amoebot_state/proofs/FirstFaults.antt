@@ -10,7 +10,7 @@ use Rattle.tri_lattice.specs.Extent.{Extent}
 use Rattle.amoebot_state.specs.declared.refusal.WorldRefusal.TheVariants.{BadWall}
 use Rattle.amoebot_state.specs.Configs.{Config, frame_of, walled_frame, with_these}
 use Rattle.amoebot_state.specs.Refusals.{AreWalls, bot_fault, is_bad_wall, IsFaultless, IsFirstBadWall, IsFirstFault}
-use Rattle.amoebot_state.specs.Laws.{FirstFaultIsUnique, FirstRefusalIsUnique, FaultlessHasNoFault}
+use Rattle.amoebot_state.specs.Laws.{FirstFaultIsUnique, FirstRefusalIsUnique, FaultlessHasNoFault, LawfulHasNoRefusal}
 use Rattle.amoebot_state.specs.Examples.{eight_by_eight, node_by, on, one_wall, zeros, SmallFaults, SmallRefusals}
 
 -- before a first fault there is none
@@ -67,6 +67,10 @@ first_refusal_is_unique a walls maxes bots one two (inl (n, e, x)) (inl (m, f, y
 first_refusal_is_unique a walls maxes bots one two (inl (n, e, x)) (inr (are, y)) = absurd (no_bad_wall a walls n x are)
 first_refusal_is_unique a walls maxes bots one two (inr (are, x)) (inl (m, f, y)) = absurd (no_bad_wall a walls m y are)
 first_refusal_is_unique a walls maxes bots one two (inr (are, x)) (inr (also, y)) = first_fault_is_unique (walled_frame a walls maxes) bots one two x y
+
+pub lawful_has_no_refusal : LawfulHasNoRefusal
+lawful_has_no_refusal a walls maxes bots e are fine (inl (n, same, x)) = no_bad_wall a walls n x are
+lawful_has_no_refusal a walls maxes bots e are fine (inr (also, x)) = faultless_has_no_fault (walled_frame a walls maxes) bots e fine x
 
 -- a wall that may stand comes before place 1
 fine_before : (a : Extent) (v : Node) (walls : List Node) → is_bad_wall a [] v ≡ false → AreWalls a (v ∷ walls) 1

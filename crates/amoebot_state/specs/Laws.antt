@@ -21,7 +21,7 @@ use Rattle.amoebot_state.specs.Configs.{Config, IsValid, bot_at, is_wall, occupa
 use Rattle.amoebot_state.specs.Zones.{Shown, IsShown, distinct, zone_nodes, zone_at, zone, shown, shown_alone}
 use Rattle.amoebot_state.specs.Known.{IsFront, known_zone, next_cell}
 use Rattle.amoebot_state.specs.Patches.{HasSameIds, IsPatched, IsOrdered, HasOldValues, same_value, diff}
-use Rattle.amoebot_state.specs.Refusals.{IsBotInRange, IsFaultless, IsFirstFault, IsFirstRefusal}
+use Rattle.amoebot_state.specs.Refusals.{AreWalls, IsBotInRange, IsFaultless, IsFirstFault, IsFirstRefusal}
 use Rattle.amoebot_state.specs.Occupied.{occupied}
 use Rattle.amoebot_state.specs.Steps.{Step, Run}
 use Rattle.amoebot_state.specs.SerialTurns.{SerialTurn}
@@ -277,6 +277,14 @@ FirstRefusalIsUnique =
     → IsFirstRefusal a walls maxes bots one
     → IsFirstRefusal a walls maxes bots two
     → one ≡ two
+
+-- and walls that may stand there, with amoebots of which none is refused beside them, have none
+abbrev pub LawfulHasNoRefusal : Type 0
+LawfulHasNoRefusal =
+    (a : Extent) (walls : List Node) (maxes : List ℕ) (bots : List Bot) (e : WorldRefusal)
+    → AreWalls a walls (length walls)
+    → IsFaultless (walled_frame a walls maxes) bots (length bots)
+    → ¬ IsFirstRefusal a walls maxes bots e
 
 -- a frame with walls, of an area and of eight maxima, is valid
 abbrev pub WalledFrameIsValid : Type 0

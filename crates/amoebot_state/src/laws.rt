@@ -11,7 +11,7 @@ ghost use Rattle.amoebot_state.specs.Laws.{FirstFaultIsUnique, FaultlessHasNoFau
 ghost use Rattle.amoebot_state.specs.Laws.{ShownAloneHoldsTheSame, OccupiedIsOccupant, PortLeadsBeside};
 ghost use Rattle.amoebot_state.specs.Laws.{ShownAloneHasTheZone, NoneIsOutsideTheZone, BesideHoldsTheSame};
 ghost use Rattle.amoebot_state.specs.Laws.{FirstRefusalIsUnique, WalledFrameIsValid, NodesAreTheirNumbers};
-ghost use Rattle.amoebot_state.specs.Laws.{ShownHasTheWalls, BesideHasTheSameWalls};
+ghost use Rattle.amoebot_state.specs.Laws.{LawfulHasNoRefusal, ShownHasTheWalls, BesideHasTheSameWalls};
 ghost use Rattle.amoebot_state.specs.Reversals.{ReversedLeadsBack};
 ghost use Rattle.amoebot_state.specs.Examples.{SmallFaults, SmallRefusals};
 ghost use Rattle.amoebot_state.specs.Laws.{SerialTurnIsUnique};
@@ -196,6 +196,11 @@ pub fn small_faults()
 /// At most one refusal is the first one of a list of walls and a list of amoebots.
 pub fn first_refusal_is_unique()
     ensures { FirstRefusalIsUnique }
+{}
+
+/// Walls that may stand there, and amoebots without a fault beside them, have no first refusal.
+pub fn lawful_has_no_refusal()
+    ensures { LawfulHasNoRefusal }
 {}
 
 /// Lists of walls and of amoebots with their first refusal.

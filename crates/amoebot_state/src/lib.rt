@@ -25,7 +25,7 @@ pub use laws::{
     beside_has_the_same_walls, beside_holds_the_same, contracted_has_six_ports, diff_leads,
     expanded_has_ten_ports, faultless_has_no_fault, faultless_is_valid, first_fault_is_unique,
     first_refusal_is_unique, front_grows, front_stands, global_and_local_are_inverse,
-    known_grows_at_its_end, known_is_front, next_is_in_zone, next_is_new,
+    known_grows_at_its_end, known_is_front, lawful_has_no_refusal, next_is_in_zone, next_is_new,
     node_behind_port_is_in_zone, nodes_are_their_numbers, none_is_outside_the_zone,
     occupant_behind_port_is_in_zone, occupied_is_occupant, old_values_are_one,
     ordered_patch_is_diff, patch_lists_what_differs, patched_is_unique, port_leads_beside,
