@@ -80,15 +80,6 @@ class World:
         spots = {f"spot {x} {y}" for x, y in nodes}
         return spots | {f"body {self.on[node]}" for node in nodes if node in self.on}
 
-    def put(self, number, bot):
-        """Puts another amoebot in the place of this one. Nodes that change hands are taken by whoever is put last."""
-        for node in self.bots[number].nodes():
-            if self.on.get(node) == number:
-                del self.on[node]
-        self.bots[number] = bot
-        for node in bot.nodes():
-            self.on[node] = number
-
     def is_connected(self):
         if not self.on:
             return True
@@ -236,14 +227,14 @@ class Program:
     """A program: its guard, its variables with their maxima, and its actions."""
 
     def __init__(self, reader):
-        self.reader, self.maxes, self.variables, self.actions, self.names = reader, [], {}, [], []
+        self.reader, self.maxes, self.variables, self.actions = reader, [], {}, []
         reader.need("program")
         self.guard = bool(reader.takes("guard")) and reader.next() == "on"
         while reader.takes("var"):
             self.variables[reader.next()] = len(self.maxes)
             self.maxes.append(int(reader.next()))
         while reader.takes("action"):
-            self.names.append(reader.next())
+            reader.next()
             reader.need("when")
             guard = self.expression()
             statements = self.statements() if reader.takes("do") else []
