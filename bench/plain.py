@@ -1,9 +1,13 @@
-"""A plain checker of reports: it reads a document and what `run` or `tickets` wrote of it, and knows the model and no claims.
+"""A plain checker of reports, which knows the model and no claims.
 
-It shares no code with the program. It is written from docs/FORMAT.md and docs/MODEL.md, and looks only at documents that have no fault. `judge` makes the
-journal again, entry by entry, from the shape of the document. Each entry has to be what the program decides there, with just its text. Each mark has to
-be true on the world at its place: Idle and Failed are decided again. Of Busy the cell has to be in the zone of the turn's amoebot at its place, and in that
-of the other turn at the other turn's place. The final shape has to be the last world. With the guard on a connected shape has to stay connected.
+It reads a document and what `run` or `tickets` wrote of it. It shares no code with the program. It is written
+from docs/FORMAT.md and docs/MODEL.md, and looks only at documents that have no fault.
+
+`judge` makes the journal again, entry by entry, from the shape of the document. Each entry has to be what the
+program decides there, with just its text. Each mark has to be true on the world at its place: Idle and Failed
+are decided again. Of Busy the cell has to be in the zone of the turn's amoebot at its place, and in that of
+the other turn at the other turn's place. The final shape has to be the last world. With the guard on a
+connected shape has to stay connected.
 """
 
 import re
@@ -76,7 +80,8 @@ class World:
     def zone(self, number):
         """The cells of an amoebot's zone, as their texts."""
         bot = self.bots[number]
-        nodes = bot.nodes() + [node for node in map(bot.behind, filter(bot.has_port, ALL_PORTS)) if self.is_inside(node)]
+        behind = map(bot.behind, filter(bot.has_port, ALL_PORTS))
+        nodes = bot.nodes() + [node for node in behind if self.is_inside(node)]
         spots = {f"spot {x} {y}" for x, y in nodes}
         return spots | {f"body {self.on[node]}" for node in nodes if node in self.on}
 
@@ -139,8 +144,11 @@ class Site:
                     yield port
 
     def after(self, moved, guard):
-        """What the amoebots are after the writes and a movement, as far as they are others, by their numbers; and the node that changed hands."""
-        bots = {number: Bot(old.head, old.tail, old.rot, old.chir, values) for number, values in self.written.items() for old in [self.world.bots[number]]}
+        """The amoebots that writes and a movement touch, as they are then; the node that changes hands."""
+        bots = {}
+        for number, values in self.written.items():
+            old = self.world.bots[number]
+            bots[number] = Bot(old.head, old.tail, old.rot, old.chir, values)
         if moved[0] == "none":
             return bots, None
 
@@ -238,7 +246,8 @@ class Program:
             reader.need("when")
             guard = self.expression()
             statements = self.statements() if reader.takes("do") else []
-            self.actions.append((guard, statements, self.movement() if reader.takes("move") else lambda site: ("none",)))
+            movement = self.movement() if reader.takes("move") else lambda site: ("none",)
+            self.actions.append((guard, statements, movement))
         reader.need("end")
 
     def movement(self):
@@ -309,7 +318,7 @@ class Program:
         return name, kind, condition
 
     def chosen(self, name, kind, condition):
-        """A function that goes over the ports of a set, and tells of each whether the condition is true there."""
+        """A function that goes over the ports of a set, each with whether the condition is true there."""
         def each(site):
             for port in site.pairs(kind):
                 site.names[name] = port
@@ -420,7 +429,7 @@ class Program:
         return lambda site: site.names[word]
 
     def verdict(self, world, number):
-        """What the program decides on an amoebot: ("idle",), ("failed", why), or ("change", action, moved, amoebots, node)."""
+        """What it decides: ("idle",), ("failed", why) or ("change", action, moved, amoebots, node)."""
         site = Site(world, number, self.maxes)
         try:
             for at, (guard, statements, movement) in enumerate(self.actions):
@@ -446,7 +455,9 @@ def small(direction):
 
 
 def is_compared(left, compare, right):
-    return {"=": left == right, "!=": left != right, "<": left < right, "<=": left <= right, ">": left > right, ">=": left >= right}[compare]
+    if compare in ("=", "!="):
+        return (left == right) == (compare == "=")
+    return {"<": left < right, "<=": left <= right, ">": left > right, ">=": left >= right}[compare]
 
 
 def is_so(word, site, port):
@@ -534,7 +545,9 @@ def sections_of(text, names):
 def moved_text(moved):
     if moved[0] == "none":
         return "none"
-    return f"contract {moved[1]}" if moved[0] == "contract" else f"{moved[0]} {ENDS[moved[1][0]]} {moved[1][1]}"
+    if moved[0] == "contract":
+        return f"contract {moved[1]}"
+    return f"{moved[0]} {ENDS[moved[1][0]]} {moved[1][1]}"
 
 
 def make_entry(document, world, verdict):
@@ -564,13 +577,14 @@ def make_entry(document, world, verdict):
 def read_marks(document, lines):
     """The marks by caller and turn, each as its words."""
     marks = {}
-    for line, (caller, turn) in zip(lines, ((caller, turn) for caller in range(len(document.lists)) for turn in range(document.turns)), strict=False):
+    turns = [(caller, turn) for caller in range(len(document.lists)) for turn in range(document.turns)]
+    if len(lines) != len(turns):
+        raise Wrong(f"there are {len(lines)} lines of turns")
+    for line, (caller, turn) in zip(lines, turns):
         words = line.split(" ")
         if words[:3] != ["turn", str(caller), str(turn)]:
             raise Wrong(f"a line of the turns: {line}")
         marks[caller, turn] = words[3:]
-    if len(lines) != len(marks) or len(marks) != document.turns * len(document.lists):
-        raise Wrong(f"there are {len(lines)} lines of turns")
     return marks
 
 
@@ -620,12 +634,14 @@ def check_place(document, world, questions, place):
                 zones[bot] = world.zone(bot)
             if rest[0] not in zones[bot]:
                 raise Wrong(f"{rest[0]} is not in the zone of amoebot {bot} at place {place}")
-        elif document.program.verdict(world, bot) != (kind, *rest):
-            raise Wrong(f"amoebot {bot} is not {kind} at place {place}, but {document.program.verdict(world, bot)[:3]}")
+            continue
+        verdict = document.program.verdict(world, bot)
+        if verdict != (kind, *rest):
+            raise Wrong(f"amoebot {bot} is not {kind} at place {place}, but {verdict[:3]}")
 
 
 def judge(text, report):
-    """Raises Wrong where this is not a good report of the document. Otherwise it counts the marks by their words, and the movements by theirs."""
+    """Raises Wrong where this is not a good report of the document. Else it counts marks and movements."""
     document = Document(text)
     world, program = document.world, document.program
     entries, final, turns = sections_of(report, ["journal", "final", "turns"])
