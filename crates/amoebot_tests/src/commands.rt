@@ -173,8 +173,8 @@ pub static INTERLEAVINGS: [Row; 4] = [
     ),
 ];
 
-/// Journals that agree or differ, and a program that is printed.
-pub static COMPARED_AND_CHECKED: [Row; 5] = [
+/// Journals that agree or differ, and programs that are printed.
+pub static COMPARED_AND_CHECKED: [Row; 7] = [
     (
         "replay",
         "{OUT}{FAR}{FAR_JOURNAL}{FAR_FINAL}",
@@ -213,6 +213,18 @@ pub static COMPARED_AND_CHECKED: [Row; 5] = [
         None,
         "amoebot 1\nprogram\nguard off\nvar m 3\naction a\nwhen ( m = 0 or m = 1 ) and not contracted\n\
         do m := m + 1 ; if m > 2 then m := 0 fi\nmove contract tail\nend\n",
+    ),
+    // It is canonical already.
+    ("check", "{GUARDED_EIGHT}", Done, None, "{GUARDED_EIGHT}"),
+    (
+        "replay",
+        "{GUARDED_EIGHT}shape\narea 0 0 8 8\nbot 3 3 2 3 0 + 0 1 2 3 4 5 6 7\nend\n\
+        journal\nentry 0 0 0 0 0 none body 0 3 3 2 3 0 + 1 1 2 3 4 5 6 8\n\
+        entry 1 0 1 0 1 contract tail spot 2 3 empty body 0 3 3 3 3 0 + 0 1 2 3 4 5 6 8\nend\n\
+        final\narea 0 0 8 8\nbot 3 3 3 3 0 + 0 1 2 3 4 5 6 8\nend\n",
+        Done,
+        None,
+        "agrees 2\n",
     ),
 ];
 

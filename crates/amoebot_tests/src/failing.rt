@@ -223,6 +223,45 @@ fn each_failing_call_of_a_check_gives_its_status(rt: HostRuntime) -> Result<(), 
     check_each_write(&rt, rt.alloc(), &case)
 }
 
+#[test]
+fn each_failing_write_of_a_shown_program_gives_its_status(rt: HostRuntime) -> Result<(), Fail> {
+    for (name, text) in &SHOWN {
+        let case = Case {
+            words: &["show", *name],
+            document: "",
+            status: Status::Done,
+            text: *text,
+        };
+        check_each_write(&rt, rt.alloc(), &case)?;
+    }
+    Ok(())
+}
+
+/// The first write, the fourth and the last one of seven. A call takes some time, since 16,000 turns are made.
+#[test]
+fn a_failing_write_of_a_sample_gives_its_status(rt: HostRuntime) -> Result<(), Fail> {
+    let case = Case {
+        words: &["sample", "1"],
+        document: "",
+        status: Status::Done,
+        text: "sample 1\nbots 150\ncallers 4\nturns 16000\nconnected yes\nreplay yes\n",
+    };
+    let text = case.text.as_bytes();
+    for (failing, before) in [(0, 0), (3, 30), (6, 60)] {
+        let taken = text.get(..before).ok_or("a front")?;
+        check_write(
+            &rt,
+            rt.alloc(),
+            &case,
+            4096,
+            &[failing],
+            Status::WriteFault,
+            taken,
+        )?;
+    }
+    Ok(())
+}
+
 /// The third read fails, and then the second write: ten bytes went out before.
 #[test]
 fn the_third_read_fails_and_then_the_second_write(rt: HostRuntime) -> Result<(), Fail> {
@@ -249,7 +288,7 @@ fn the_third_read_fails_and_then_the_second_write(rt: HostRuntime) -> Result<(),
 /// A line that says what is wrong fails as a text does.
 #[test]
 fn a_line_that_is_not_written_is_a_write_fault(rt: HostRuntime) -> Result<(), Fail> {
-    let lines: [(&[&str], &str, &[u32], &str); 7] = [
+    let lines: [(&[&str], &str, &[u32], &str); 9] = [
         (&["walk"], "", &[], "usage: run / interle"),
         (&["run"], "", &[], "refused 1 Truncated\n"),
         (&["run"], "amoebot 1", &[0], "read fault"),
@@ -257,6 +296,8 @@ fn a_line_that_is_not_written_is_a_write_fault(rt: HostRuntime) -> Result<(), Fa
         (&["renew"], OTHER_SHAPE, &[], "differs 1\n"),
         (&["rounds"], OTHER_SHAPE, &[], "differs 1\n"),
         (&["elect"], OTHER_SHAPE, &[], "refused 0 NotErosion\n"),
+        (TO_START, OTHER_TURN, &[], "differs 0\n"),
+        (&["rewind", "2"], OTHER_TURN, &[], "refused 0 BadPlace\n"),
     ];
     for (words, document, failing, line) in lines {
         let mut input = MemSource::new(rt.alloc(), document.as_bytes(), PIECE, failing)?;
@@ -275,6 +316,12 @@ const OTHER_SHAPE: &str = "amoebot 1 program action out when contracted move exp
     shape area 0 0 8 8 bot 2 3 2 3 0 + end \
     journal entry 0 0 0 0 0 expand head 0 spot 3 3 0 body 0 3 3 2 3 0 + end \
     final area 0 0 8 8 bot 2 3 2 3 0 + end";
+
+/// A journal of one entry, whose amoebot was turned otherwise before. So nothing leads to its last shape.
+const OTHER_TURN: &str = "amoebot 3 program action out when contracted move expand head 0 end \
+    shape area 0 0 8 8 bot 2 3 2 3 0 + end \
+    journal entry 0 0 0 0 0 expand head 0 spot 3 3 empty to 0 body 0 2 3 2 3 1 + to 3 3 2 3 0 + end \
+    final area 0 0 8 8 bot 3 3 2 3 0 + end";
 
 /// The first read of the source would fail, and a second one would not.
 pub(crate) fn unread(alloc: Global) -> Result<MemSource, Fail> {

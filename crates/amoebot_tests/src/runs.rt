@@ -4,7 +4,7 @@ use amoebot_run::Status::Done;
 use shared_tests::pieces::{Row, WORKED};
 
 /// Runs whose text is decided: of at most one list, and of two lists that never meet and change nothing. Some turns fail.
-pub static RUNS: [Row; 14] = [
+pub static RUNS: [Row; 15] = [
     WORKED,
     // There is no list.
     (
@@ -130,6 +130,17 @@ pub static RUNS: [Row; 14] = [
         "{NO_ENTRY}\
         final\narea 0 0 8 8\nbot 7 1 7 1 0 +\nbot 7 6 7 6 0 +\nend\n\
         turns\nturn 0 0 failed edge 0\nturn 1 0 failed edge 0\nend\n",
+    ),
+    // It makes its note, which is kept. With the guard on it may not let its neighbour go, and what it wrote before is not kept.
+    (
+        "run",
+        "{GUARDED_EIGHT}shape\narea 0 0 8 8\nbot 3 3 2 3 0 + 0 1 2 3 4 5 6 7\nbot 1 3 1 3 0 + 1 2 3 4 5 6 7 8\nend\n\
+        {TWO_TURNS}",
+        Done,
+        Some(1),
+        "journal\nentry 0 0 0 0 0 none body 0 3 3 2 3 0 + 1 1 2 3 4 5 6 8\nend\n\
+        final\narea 0 0 8 8\nbot 3 3 2 3 0 + 1 1 2 3 4 5 6 8\nbot 1 3 1 3 0 + 1 2 3 4 5 6 7 8\nend\n\
+        turns\nturn 0 0 done 0\nturn 0 1 failed would_split 1\nend\n",
     ),
 ];
 

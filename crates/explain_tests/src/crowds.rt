@@ -1,11 +1,11 @@
-//! How often the meter asks among 1,000 amoebots.
+//! How often the meter asks among 1,000 amoebots, by entries with their old values and by entries without them.
 ghost use Rattle.std.specs.Prelude.{◌≡◌, ◌≤◌, ◌<◌, ◌+◌, ◌^◌, IfOk, OnOk};
 ghost use Rattle.std.specs.List.{All};
 ghost use Rattle.amoebot_state.specs.Refusals.{IsBotInRange};
 
 use crate::counting::Counting;
 use crate::programs::{BACK, DRAG, PASS, runner_of};
-use crate::rounds::feed;
+use crate::rounds::{feed, follow, numbers};
 use amoebot_state::{Bot, Decider};
 use round_meter::Meter;
 use serial_model::{Serial, Turned};
@@ -14,17 +14,21 @@ use std::alloc::Global;
 use std::process::Abort;
 use std::test::Fail;
 
-/// A turn of an amoebot. Whether it has an entry, for which the meter takes at most so many decisions.
+/// A turn of an amoebot. Whether it has an entry, for which each of two meters takes at most so many decisions: the first one is fed with
+/// it, and the other one follows it without its old values.
 fn take_turn<R: Abort, D: Decider>(
     rt: &R,
     decider: &Counting<D>,
     meter: &mut Meter<'_, Counting<D>>,
+    follower: &mut Meter<'_, Counting<D>>,
     serial: &mut Serial,
     bot: u16,
     most: u64,
 ) -> Result<bool, Fail>
-    requires { meter.old.state.fed < 2 ^ 31 }
-    ensures { OnOk result (meter.new.state.fed ≤ meter.old.state.fed + 1) }
+    requires fed { meter.old.state.fed < 2 ^ 31 }
+    requires followed { follower.old.state.fed < 2 ^ 31 }
+    ensures fed { OnOk result (meter.new.state.fed ≤ meter.old.state.fed + 1) }
+    ensures followed { OnOk result (follower.new.state.fed ≤ follower.old.state.fed + 1) }
 {
     if bot >= serial.world().bots() {
         Err("no amoebot")?;
@@ -35,6 +39,8 @@ fn take_turn<R: Abort, D: Decider>(
     let _before = decider.taken();
     feed(meter, &entry)?;
     assert!(rt; decider.taken() <= most);
+    follow(follower, &entry)?;
+    assert!(rt; decider.taken() <= most);
     Ok(true)
 }
 
@@ -43,35 +49,41 @@ fn take_turns<R: Abort, D: Decider>(
     rt: &R,
     decider: &Counting<D>,
     meter: &mut Meter<'_, Counting<D>>,
+    follower: &mut Meter<'_, Counting<D>>,
     serial: &mut Serial,
     most: u64,
 ) -> Result<u64, Fail>
-    requires { meter.old.state.fed ≡ 0 }
+    requires fed { meter.old.state.fed ≡ 0 }
+    requires followed { follower.old.state.fed ≡ 0 }
 {
     let mut entries = 0;
     for bot in 0..1000 {
-        if take_turn(rt, decider, meter, serial, bot, most)? {
+        if take_turn(rt, decider, meter, follower, serial, bot, most)? {
             entries += 1;
         }
     }
     Ok(entries)
 }
 
-/// The start took a decision for each. Each amoebot in turn acts once, if it can, and each entry takes at most so many decisions. There are
-/// so many entries.
+/// Each start took a decision for each amoebot. Each in turn acts once, if it can, and each entry takes each meter at most so many
+/// decisions. There are so many entries.
 fn check_turns<R: Abort, D: Decider>(
     rt: &R,
     decider: &Counting<D>,
     meter: &mut Meter<'_, Counting<D>>,
+    follower: &mut Meter<'_, Counting<D>>,
     serial: &mut Serial,
     most: u64,
     number: u64,
 ) -> Result<(), Fail>
-    requires { meter.old.state.fed ≡ 0 }
+    requires fed { meter.old.state.fed ≡ 0 }
+    requires followed { follower.old.state.fed ≡ 0 }
 {
-    assert!(rt; decider.taken() == 1000);
-    assert!(rt; take_turns(rt, decider, meter, serial, most)? == number);
+    assert!(rt; decider.taken() == 2000);
+    assert!(rt; take_turns(rt, decider, meter, follower, serial, most)? == number);
     assert!(rt; meter.world().same(serial.world()));
+    assert!(rt; follower.world().same(serial.world()));
+    assert!(rt; numbers(follower) == numbers(meter));
     Ok(())
 }
 
@@ -92,7 +104,16 @@ fn check_crowd<R: Abort, D: Decider>(
     }
     let mut serial = Serial::new(world_in(alloc, size.0, size.1, bots)?);
     let mut meter = Meter::make(alloc, decider, world_in(alloc, size.0, size.1, bots)?)?;
-    check_turns(rt, decider, &mut meter, &mut serial, most, number)
+    let mut follower = Meter::make(alloc, decider, world_in(alloc, size.0, size.1, bots)?)?;
+    check_turns(
+        rt,
+        decider,
+        &mut meter,
+        &mut follower,
+        &mut serial,
+        most,
+        number,
+    )
 }
 
 /// The same of a program's text.

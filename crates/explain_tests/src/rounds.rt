@@ -73,6 +73,20 @@ pub fn feed<D: Decider>(meter: &mut Meter<'_, D>, entry: &Entry) -> Result<(), F
     }
 }
 
+/// Follows an entry without its old values, which has to be a step.
+pub fn follow<D: Decider>(meter: &mut Meter<'_, D>, entry: &Entry) -> Result<(), Fail>
+    requires { meter.old.state.fed < 2 ^ 31 }
+    ensures { OnOk result (meter.new.state.fed ≡ meter.old.state.fed + 1) }
+{
+    if entry.bot >= meter.world().bots() {
+        return Err(Fail::from("no amoebot"));
+    }
+    match meter.follow(&entry.plain()) {
+        Ok(()) => Ok(()),
+        Err(_) => Err(Fail::from("no step")),
+    }
+}
+
 /// The rounds that have ended, and the amoebots that wait.
 pub fn numbers<D: Decider>(meter: &Meter<'_, D>) -> (u64, u64) {
     (u64::from(meter.rounds()), u64::from(meter.waiting()))

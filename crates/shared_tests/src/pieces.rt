@@ -30,7 +30,7 @@ pub const USAGE: &str =
 
 // ---- programs
 
-static PROGRAMS: [Piece; 14] = [
+static PROGRAMS: [Piece; 15] = [
     // A contracted amoebot expands. Four lines. Then the same in versions 2 and 3.
     (
         "OUT",
@@ -79,6 +79,13 @@ static PROGRAMS: [Piece; 14] = [
     (
         "UNGUARDED",
         "amoebot 1\nprogram\nguard off\naction a when expanded move contract tail\nend\n",
+    ),
+    // The guard is on, and there are eight variables. An expanded amoebot makes a note once, and then it contracts.
+    (
+        "GUARDED_EIGHT",
+        "amoebot 1\nprogram\nguard on\nvar a 1\nvar b 2\nvar c 3\nvar d 4\nvar e 5\nvar f 6\nvar g 7\nvar h 8\n\
+        action note\nwhen expanded and h = 7\ndo a := 1 ; h := g + 2\nmove none\n\
+        action back\nwhen expanded\ndo a := 0\nmove contract tail\nend\n",
     ),
     (
         "PUSH",
