@@ -9,7 +9,7 @@ ghost use Rattle.claim_rule.specs.Tokens.{IsOf, number_in};
 
 use amoebot_state::{Change, Decider, Verdict, World};
 use claim_core::Lists;
-use claim_rule::{ByTicket, Claimed, Field, Manner, Seat, Seats};
+use claim_rule::{Claimed, Field, Manner, Seat, Seats};
 use node_claims::try_claim;
 use std::alloc::Global;
 use std::test::Fail;
@@ -28,25 +28,6 @@ pub fn field_of<'d, D: Decider>(
     ensures all { IfOk result (λ made. All (λ seat. IsSome seat) made.1.seats) }
 {
     match Field::make(alloc, decider, world, lists) {
-        Ok(made) => Ok(made),
-        Err(_) => Err(Fail::from("no field")),
-    }
-}
-
-/// The same, of a field on which commits draw their places.
-pub fn ticket_field_of<'d, D: Decider>(
-    alloc: Global,
-    decider: &'d D,
-    world: World,
-    lists: &'d Lists,
-) -> Result<(Field<'d, D, ByTicket>, Seats<D, ByTicket>), Fail>
-    requires some { 1 ≤ length lists.now.ids }
-    requires bots { All (All (λ id. IsSome (bot_at world id))) lists.now.ids }
-    ensures lists { IfOk result (λ made. made.0.terms.lists ≡ lists.now) }
-    ensures of { IfOk result (λ made. AreOf made.0 made.1) }
-    ensures all { IfOk result (λ made. All (λ seat. IsSome seat) made.1.seats) }
-{
-    match Field::make_tickets(alloc, decider, world, lists) {
         Ok(made) => Ok(made),
         Err(_) => Err(Fail::from("no field")),
     }

@@ -7,11 +7,11 @@ ghost use Rattle.claim_rule.specs.Tokens.{IsOf, doing};
 ghost use Rattle.zone_tests.specs.Walks.{IsWalker};
 
 use crate::field_fixtures::{begun, whole};
-use crate::fields::{field_of, seat_of, ticket_field_of};
+use crate::fields::{field_of, seat_of};
 use amoebot_state::{CellName, World};
 use claim_core::{Core, Lists, Look, Mark, Phase};
 use claim_rule::{
-    Field, Freeing, Held, Manner, Seats, Stopped, Tag, end, free_last, look, refuse, win,
+    ByTicket, Field, Freeing, Held, Manner, Seats, Stopped, Tag, end, free_last, look, refuse, win,
 };
 use node_claims::release;
 use small_worlds::{Idler, lists_of, standing, world_in};
@@ -346,6 +346,24 @@ fn seated_in(
     seated(rt, alloc, &field, lists, &mut seats, steps)
 }
 
+/// A field on which commits draw their places, over the world, with a seat for each caller.
+fn ticket_field_of<'d>(
+    alloc: Global,
+    world: World,
+    lists: &'d Lists,
+) -> Result<(Field<'d, Idler, ByTicket>, Seats<Idler, ByTicket>), Fail>
+    requires some { 1 ≤ length lists.now.ids }
+    requires bots { All (All (λ id. IsSome (bot_at world id))) lists.now.ids }
+    ensures lists { IfOk result (λ made. made.0.terms.lists ≡ lists.now) }
+    ensures of { IfOk result (λ made. AreOf made.0 made.1) }
+    ensures all { IfOk result (λ made. All (λ seat. IsSome seat) made.1.seats) }
+{
+    match Field::make_tickets(alloc, &Idler, world, lists) {
+        Ok(made) => Ok(made),
+        Err(_) => Err(Fail::from("no field")),
+    }
+}
+
 /// The same over a field of this world on which commits draw their places, so that a node is claimed as a body is.
 fn seated_by_ticket(
     rt: &impl Abort,
@@ -358,7 +376,7 @@ fn seated_by_ticket(
     requires bots { All (All (λ id. IsSome (bot_at world id))) lists.now.ids }
     requires few { steps.0 ≤ 8 }
 {
-    let (field, mut seats) = ticket_field_of(alloc, &Idler, world, lists)?;
+    let (field, mut seats) = ticket_field_of(alloc, world, lists)?;
     seated(rt, alloc, &field, lists, &mut seats, steps)
 }
 
