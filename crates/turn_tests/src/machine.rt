@@ -5,7 +5,7 @@ ghost use Rattle.amoebot_state.specs.Configs.{bot_at};
 
 use activation::Turn;
 use amoebot_state::{Decider, Entry, World};
-use claim_core::{Core, Journal, Lists, Marks, Report};
+use claim_core::{Core, Journal, Lists, Mark, Marks, Report};
 use std::alloc::Global;
 use std::process::Abort;
 use std::test::Fail;
@@ -48,12 +48,21 @@ fn step_callers<D: Decider>(
 
 /// The answer's mark is the one that is expected of its turn.
 pub fn is_marked(rt: &impl Abort, expected: &Marks, answer: &Turn) -> Result<(), Fail> {
-    let caller = answer.caller();
-    let turn = answer.turn();
+    has_mark(rt, expected, answer.caller(), answer.turn(), answer.mark())
+}
+
+/// This mark is the one that is expected of a caller's turn.
+pub fn has_mark(
+    rt: &impl Abort,
+    expected: &Marks,
+    caller: u8,
+    turn: u32,
+    mark: Mark,
+) -> Result<(), Fail> {
     if caller >= expected.callers() || turn >= expected.count(caller) {
         return Err(Fail::from("no mark"));
     }
-    assert!(rt; answer.mark() == expected.mark(caller, turn));
+    assert!(rt; mark == expected.mark(caller, turn));
     Ok(())
 }
 

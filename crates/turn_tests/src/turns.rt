@@ -63,6 +63,31 @@ fn one_each<R: Wait + Abort>(
     Ok((first, second))
 }
 
+/// One turn after another: both commit, and then both are idle. The gate is called in each.
+fn in_turn<R: Wait + Abort>(
+    rt: &R,
+    field: &Field<'_, Marker>,
+    lists: &Lists,
+    expected: &Marks,
+    zero: Seat<Marker>,
+    one: Seat<Marker>,
+) -> Result<(Seat<Marker>, Seat<Marker>), Fail>
+    requires zero { IsOf field.now zero }
+    requires one { IsOf field.now one }
+    requires lists { field.now.terms.lists ≡ lists.now }
+    ensures zero { IfOk result (λ after. IsOf field.now after.0 × (number_in after.0 ≡ number_in zero)) }
+    ensures one { IfOk result (λ after. IsOf field.now after.1 × (number_in after.1 ≡ number_in one)) }
+{
+    let gate = Counter::new();
+    let done = (Mark::Done { place: 0 }, Mark::Done { place: 1 });
+    let idle = (Mark::Idle { place: 2 }, Mark::Idle { place: 2 });
+    let seats = one_each(rt, field, lists, expected, &gate, (zero, one), done)?;
+    let (zero, one) = one_each(rt, field, lists, expected, &gate, seats, idle)?;
+    assert!(rt; gate.calls() == 4);
+    assert!(rt; zero.next_turn() == 2 && one.next_turn() == 2);
+    Ok((zero, one))
+}
+
 /// Commits the change of the first turn of caller 0, which is the first one of the journal, and frees the zone.
 fn committed<R: Wait + Abort>(
     rt: &R,
@@ -134,12 +159,44 @@ fn inside<R: Wait + Abort>(
     Ok((zero, one))
 }
 
+/// How two callers make their two turns each.
+#[derive(Clone, Copy)]
+enum Order {
+    /// One turn after another.
+    InTurn,
+    /// The first turn of caller 1 lies inside that of caller 0.
+    Inside,
+}
+
+/// Each makes its two turns, in this order.
+fn by_order<R: Wait + Abort>(
+    rt: &R,
+    field: &Field<'_, Marker>,
+    lists: &Lists,
+    expected: &Marks,
+    order: Order,
+    zero: Seat<Marker>,
+    one: Seat<Marker>,
+) -> Result<(Seat<Marker>, Seat<Marker>), Fail>
+    requires zero { IsOf field.now zero }
+    requires one { IsOf field.now one }
+    requires lists { field.now.terms.lists ≡ lists.now }
+    ensures zero { IfOk result (λ after. IsOf field.now after.0 × (number_in after.0 ≡ number_in zero)) }
+    ensures one { IfOk result (λ after. IsOf field.now after.1 × (number_in after.1 ≡ number_in one)) }
+{
+    match order {
+        Order::InTurn => in_turn(rt, field, lists, expected, zero, one),
+        Order::Inside => inside(rt, field, lists, expected, zero, one),
+    }
+}
+
 /// Both seats are taken, make their turns, and are given back.
 fn with_both_seats<R: Wait + Abort>(
     rt: &R,
     field: &Field<'_, Marker>,
     lists: &Lists,
     expected: &Marks,
+    order: Order,
     seats: &mut Seats<Marker>,
 ) -> Result<(), Fail>
     requires of { AreOf field.now seats.old }
@@ -149,7 +206,7 @@ fn with_both_seats<R: Wait + Abort>(
 {
     let zero = seat_of(field, seats, 0)?;
     let one = seat_of(field, seats, 1)?;
-    let (zero_after, one_after) = inside(rt, field, lists, expected, zero, one)?;
+    let (zero_after, one_after) = by_order(rt, field, lists, expected, order, zero, one)?;
     seats.give(one_after);
     seats.give(zero_after);
     Ok(())
@@ -161,33 +218,35 @@ fn closed<R: Wait + Abort>(
     field: Field<'_, Marker>,
     lists: &Lists,
     expected: &Marks,
+    order: Order,
     mut seats: Seats<Marker>,
 ) -> Result<(World, Journal), Fail>
     requires of { AreOf field seats }
     requires lists { field.terms.lists ≡ lists.now }
     requires all { All (λ seat. IsSome seat) seats.seats }
 {
-    with_both_seats(rt, &field, lists, expected, &mut seats)?;
+    with_both_seats(rt, &field, lists, expected, order, &mut seats)?;
     Ok(field.close(seats))
 }
 
 /// What a field over the world leaves once both callers have made their turns.
-fn left_inside<R: Wait + Abort>(
+fn left_by<R: Wait + Abort>(
     rt: &R,
     alloc: Global,
     world: World,
     lists: &Lists,
     expected: &Marks,
+    order: Order,
 ) -> Result<(World, Journal), Fail>
     requires some { 1 ≤ length lists.now.ids }
     requires bots { All (All (λ id. IsSome (bot_at world id))) lists.now.ids }
 {
     let (field, seats) = field_of(alloc, &Marker, world, lists)?;
-    closed(rt, field, lists, expected, seats)
+    closed(rt, field, lists, expected, order, seats)
 }
 
 /// Variable 0 of both is 1.
-fn are_marked(rt: &impl Abort, alloc: Global, last: &World) -> Result<(), Fail> {
+pub fn are_marked(rt: &impl Abort, alloc: Global, last: &World) -> Result<(), Fail> {
     let marked = world_in(alloc, 8, 8, &[standing(2, 3, 1), standing(3, 3, 1)])?;
     assert!(rt; last.same(&marked));
     Ok(())
@@ -195,14 +254,29 @@ fn are_marked(rt: &impl Abort, alloc: Global, last: &World) -> Result<(), Fail> 
 
 /// What the journal is of two neighbours, each with a caller of two turns. They end with variable 0 at 1, as the machine leaves them by
 /// the same steps.
-fn both_marked<R: Wait + Abort>(rt: &R, alloc: Global) -> Result<Journal, Fail> {
+fn both_marked<R: Wait + Abort>(
+    rt: &R,
+    alloc: Global,
+    order: Order,
+    steps: &[(u8, u8)],
+) -> Result<Journal, Fail> {
     let world = world_in(alloc, 8, 8, &[standing(2, 3, 0), standing(3, 3, 0)])?;
     let lists = lists_of(alloc, 2, &world, &[&[0], &[1]])?;
-    let report = machine_leaves(alloc, &Marker, &world, &lists, &INSIDE)?;
-    let (last, journal) = left_inside(rt, alloc, world, &lists, &report.turns)?;
+    let report = machine_leaves(alloc, &Marker, &world, &lists, steps)?;
+    let (last, journal) = left_by(rt, alloc, world, &lists, &report.turns, order)?;
     is_left(rt, &report, &last, &journal);
     are_marked(rt, alloc, &last)?;
     Ok(journal)
+}
+
+/// The steps of one turn after another: in its first turn a caller commits, and in its second one it is idle.
+pub static IN_TURN: [(u8, u8); 4] = [(0, 20), (1, 20), (0, 19), (1, 19)];
+
+#[test]
+fn two_callers_commit_one_after_the_other_and_then_are_idle(rt: HostRuntime) -> Result<(), Fail> {
+    let journal = both_marked(&rt, rt.alloc(), Order::InTurn, &IN_TURN)?;
+    are_entries(&rt, &journal, &[(0, 0, 0), (1, 0, 1)]);
+    Ok(())
 }
 
 /// Nine steps of caller 0, in which it decides; the first turn of caller 1; and then one turn after another.
@@ -210,7 +284,7 @@ static INSIDE: [(u8, u8); 5] = [(0, 9), (1, 2), (0, 11), (1, 20), (0, 19)];
 
 #[test]
 fn a_second_caller_is_busy_while_the_zone_is_held(rt: HostRuntime) -> Result<(), Fail> {
-    let journal = both_marked(&rt, rt.alloc())?;
+    let journal = both_marked(&rt, rt.alloc(), Order::Inside, &INSIDE)?;
     are_entries(&rt, &journal, &[(0, 0, 0), (1, 1, 1)]);
     Ok(())
 }

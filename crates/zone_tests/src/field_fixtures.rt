@@ -3,7 +3,7 @@ ghost use Rattle.claim_rule.specs.Tokens.{IsOf, IsToLook, number_in};
 
 use amoebot_state::{CellName, Decider};
 use claim_core::Lists;
-use claim_rule::{Claimed, Field, Held, Refused, Seat, Seats, begin, seal, win};
+use claim_rule::{Claimed, Field, Held, Manner, Refused, Seat, Seats, begin, seal, win};
 use node_claims::{place, release, try_claim};
 use small_worlds::Idler;
 use std::process::Abort;
@@ -20,11 +20,11 @@ pub fn none_left(seats: &mut Seats<Idler>) -> Result<(), Fail>
 }
 
 /// The seat's next turn begins.
-pub fn begun<D: Decider>(
-    field: &Field<'_, D>,
+pub fn begun<D: Decider, W: Manner>(
+    field: &Field<'_, D, W>,
     lists: &Lists,
-    seat: Seat<D>,
-) -> Result<Held<D>, Fail>
+    seat: Seat<D, W>,
+) -> Result<Held<D, W>, Fail>
     requires of { IsOf field.now seat }
     requires lists { field.now.terms.lists ≡ lists.now }
     ensures of { IfOk result (λ held. IsOf field.now held) }
@@ -88,7 +88,10 @@ fn won_one<D: Decider>(field: &Field<'_, D>, held: Held<D>, cell: CellName) -> R
 }
 
 /// The whole zone is held.
-pub fn whole(field: &Field<'_, Idler>, held: Held<Idler>) -> Result<Claimed<Idler>, Fail>
+pub fn whole<W: Manner>(
+    field: &Field<'_, Idler, W>,
+    held: Held<Idler, W>,
+) -> Result<Claimed<Idler, W>, Fail>
     requires { IsOf field.now held }
     ensures looks { IfOk result (λ claimed. IsOf field.now claimed × IsToLook claimed) }
     ensures same { IfOk result (λ claimed. number_in claimed ≡ number_in held) }

@@ -9,7 +9,7 @@ ghost use Rattle.claim_rule.specs.Tokens.{IsOf, number_in};
 
 use amoebot_state::{Change, Decider, Verdict, World};
 use claim_core::Lists;
-use claim_rule::{Claimed, Field, Seat, Seats};
+use claim_rule::{Claimed, Field, Manner, Seat, Seats};
 use node_claims::try_claim;
 use std::alloc::Global;
 use std::test::Fail;
@@ -34,11 +34,11 @@ pub fn field_of<'d, D: Decider>(
 }
 
 /// The seat of the least number that is there, which is to be this caller's, before its first turn.
-pub fn seat_of<D: Decider>(
-    field: &Field<'_, D>,
-    seats: &mut Seats<D>,
+pub fn seat_of<D: Decider, W: Manner>(
+    field: &Field<'_, D, W>,
+    seats: &mut Seats<D, W>,
     caller: u8,
-) -> Result<Seat<D>, Fail>
+) -> Result<Seat<D, W>, Fail>
     requires { AreOf field.now seats.old }
     ensures rest { IfOk result (λ seat. AreOf field.now seats.new) }
     ensures seat { IfOk result (λ seat. IsOf field.now seat) }

@@ -10,7 +10,9 @@ use crate::field_fixtures::{begun, whole};
 use crate::fields::{field_of, seat_of};
 use amoebot_state::{CellName, World};
 use claim_core::{Core, Lists, Look, Mark, Phase};
-use claim_rule::{Field, Freeing, Held, Seats, Stopped, Tag, end, free_last, look, refuse, win};
+use claim_rule::{
+    ByTicket, Field, Freeing, Held, Manner, Seats, Stopped, Tag, end, free_last, look, refuse, win,
+};
 use node_claims::release;
 use small_worlds::{Idler, lists_of, standing, world_in};
 use std::alloc::Global;
@@ -18,10 +20,10 @@ use std::process::Abort;
 use std::test::Fail;
 
 /// How far a caller has come in its turn: it holds cells of its zone, or was refused this one, which had this tag.
-type Walker = Result<Held<Idler>, (Stopped<Idler>, CellName, Tag)>;
+type Walker<W> = Result<Held<Idler, W>, (Stopped<Idler, W>, CellName, Tag)>;
 
 /// Whether the caller has a cell to try.
-fn claims(field: &Field<'_, Idler>, walker: &Walker) -> bool
+fn claims<W: Manner>(field: &Field<'_, Idler, W>, walker: &Walker<W>) -> bool
     requires { IsWalker field.now walker.now }
 {
     match walker {
@@ -31,7 +33,7 @@ fn claims(field: &Field<'_, Idler>, walker: &Walker) -> bool
 }
 
 /// One try to claim the next cell, if there is one.
-fn tried(field: &Field<'_, Idler>, walker: Walker) -> Walker
+fn tried<W: Manner>(field: &Field<'_, Idler, W>, walker: Walker<W>) -> Walker<W>
     requires { IsWalker field.now walker }
     ensures { IsWalker field.now result }
 {
@@ -48,7 +50,7 @@ fn tried(field: &Field<'_, Idler>, walker: Walker) -> Walker
 }
 
 /// The rest of the turn, of at most four cells, and its mark.
-fn finished(field: &Field<'_, Idler>, mut walker: Walker) -> Result<Mark, Fail>
+fn finished<W: Manner>(field: &Field<'_, Idler, W>, mut walker: Walker<W>) -> Result<Mark, Fail>
     requires { IsWalker field.now walker }
 {
     for _cell in 0..4 {
@@ -61,7 +63,11 @@ fn finished(field: &Field<'_, Idler>, mut walker: Walker) -> Result<Mark, Fail>
 }
 
 /// The marks of both.
-fn both_finished(field: &Field<'_, Idler>, zero: Walker, one: Walker) -> Result<(Mark, Mark), Fail>
+fn both_finished<W: Manner>(
+    field: &Field<'_, Idler, W>,
+    zero: Walker<W>,
+    one: Walker<W>,
+) -> Result<(Mark, Mark), Fail>
     requires zero { IsWalker field.now zero }
     requires one { IsWalker field.now one }
 {
@@ -70,7 +76,7 @@ fn both_finished(field: &Field<'_, Idler>, zero: Walker, one: Walker) -> Result<
 }
 
 /// The mark of a turn that holds its whole zone, which is freed.
-fn looked(field: &Field<'_, Idler>, held: Held<Idler>) -> Result<Mark, Fail>
+fn looked<W: Manner>(field: &Field<'_, Idler, W>, held: Held<Idler, W>) -> Result<Mark, Fail>
     requires { IsOf field.now held }
 {
     let mut claimed = whole(field, held)?;
@@ -82,7 +88,12 @@ fn looked(field: &Field<'_, Idler>, held: Held<Idler>) -> Result<Mark, Fail>
 }
 
 /// The mark of a turn that was refused a cell, and that frees what it won.
-fn refused(field: &Field<'_, Idler>, stopped: Stopped<Idler>, cell: CellName, tag: Tag) -> Mark
+fn refused<W: Manner>(
+    field: &Field<'_, Idler, W>,
+    stopped: Stopped<Idler, W>,
+    cell: CellName,
+    tag: Tag,
+) -> Mark
     requires of { IsOf field.now stopped }
     requires phase { (doing stopped).phase ≡ Refusing cell tag }
 {
@@ -98,7 +109,7 @@ fn refused(field: &Field<'_, Idler>, stopped: Stopped<Idler>, cell: CellName, ta
 }
 
 /// Frees all cells that are held.
-fn free(field: &Field<'_, Idler>, mut freeing: Freeing<Idler>)
+fn free<W: Manner>(field: &Field<'_, Idler, W>, mut freeing: Freeing<Idler, W>)
     requires { IsOf field.now freeing }
 {
     while freeing.count() > 0 {
@@ -109,12 +120,12 @@ fn free(field: &Field<'_, Idler>, mut freeing: Freeing<Idler>)
 
 /// A caller of the core stands where the walker does: it holds as many cells, and has a cell to try, or holds its whole zone, or found
 /// the same tag at the same cell.
-fn stands(
+fn stands<W: Manner>(
     rt: &impl Abort,
-    field: &Field<'_, Idler>,
+    field: &Field<'_, Idler, W>,
     core: &Core<'_, Idler>,
     caller: u8,
-    walker: &Walker,
+    walker: &Walker<W>,
 )
     requires walker { IsWalker field.now walker.now }
     requires callers { length core.now.state.callers ≡ 2 }
@@ -166,13 +177,13 @@ fn steps(core: &mut Core<'_, Idler>, caller: u8, number: u32)
 
 /// Two callers beside each other make the claim steps of this word, of which there are eight at most, the lowest bit first: 0 for
 /// caller 0, 1 for caller 1. The core makes the same steps.
-fn walked(
-    field: &Field<'_, Idler>,
+fn walked<W: Manner>(
+    field: &Field<'_, Idler, W>,
     core: &mut Core<'_, Idler>,
-    mut walkers: (Walker, Walker),
+    mut walkers: (Walker<W>, Walker<W>),
     count: u32,
     word: u32,
-) -> (Walker, Walker)
+) -> (Walker<W>, Walker<W>)
     requires walkers { IsWalker field.now walkers.0 × IsWalker field.now walkers.1 }
     requires callers { length core.old.state.callers ≡ 2 }
     requires few { count ≤ 8 }
@@ -186,12 +197,12 @@ fn walked(
 }
 
 /// One claim step of caller 0, or of caller 1.
-fn walked_one(
-    field: &Field<'_, Idler>,
+fn walked_one<W: Manner>(
+    field: &Field<'_, Idler, W>,
     core: &mut Core<'_, Idler>,
-    walkers: (Walker, Walker),
+    walkers: (Walker<W>, Walker<W>),
     caller: u32,
-) -> (Walker, Walker)
+) -> (Walker<W>, Walker<W>)
     requires walkers { IsWalker field.now walkers.0 × IsWalker field.now walkers.1 }
     requires callers { length core.old.state.callers ≡ 2 }
     ensures walkers { IsWalker field.now result.0 × IsWalker field.now result.1 }
@@ -223,11 +234,11 @@ fn has_marks(rt: &impl Abort, core: Core<'_, Idler>, zero: Mark, one: Mark) -> R
 
 /// The two callers make the claim steps of this word. Then caller 0 finishes its turn, and then caller 1. The same steps of the core
 /// leave the same marks.
-fn agrees(
+fn agrees<W: Manner>(
     rt: &impl Abort,
-    field: &Field<'_, Idler>,
+    field: &Field<'_, Idler, W>,
     mut core: Core<'_, Idler>,
-    walkers: (Walker, Walker),
+    walkers: (Walker<W>, Walker<W>),
     count: u32,
     word: u32,
 ) -> Result<(), Fail>
@@ -267,12 +278,12 @@ fn core_of(alloc: Global) -> Result<Core<'static, Idler>, Fail>
 }
 
 /// The same with the two seats, which nobody has taken yet, and a core of its own.
-fn seated(
+fn seated<W: Manner>(
     rt: &impl Abort,
     alloc: Global,
-    field: &Field<'_, Idler>,
+    field: &Field<'_, Idler, W>,
     lists: &Lists,
-    seats: &mut Seats<Idler>,
+    seats: &mut Seats<Idler, W>,
     steps: (u32, u32),
 ) -> Result<(), Fail>
     requires of { AreOf field.now seats.old }
@@ -286,12 +297,12 @@ fn seated(
 }
 
 /// The first turn of this caller, whose seat is the next one, has begun.
-fn started(
-    field: &Field<'_, Idler>,
+fn started<W: Manner>(
+    field: &Field<'_, Idler, W>,
     lists: &Lists,
-    seats: &mut Seats<Idler>,
+    seats: &mut Seats<Idler, W>,
     caller: u8,
-) -> Result<Walker, Fail>
+) -> Result<Walker<W>, Fail>
     requires of { AreOf field.now seats.old }
     requires lists { field.now.terms.lists ≡ lists.now }
     ensures walker { IfOk result (λ walker. IsWalker field.now walker) }
@@ -301,12 +312,22 @@ fn started(
     Ok(Ok(begun(field, lists, seat)?))
 }
 
+/// How the callers commit.
+#[derive(Clone, Copy)]
+enum Way {
+    ByJournal,
+    ByTicket,
+}
+
 /// The same over a field of its own.
-fn agree(rt: &impl Abort, alloc: Global, count: u32, word: u32) -> Result<(), Fail>
+fn agree(rt: &impl Abort, alloc: Global, way: Way, count: u32, word: u32) -> Result<(), Fail>
     requires { count ≤ 8 }
 {
     let (world, lists) = two_beside(alloc)?;
-    seated_in(rt, alloc, world, &lists, (count, word))
+    match way {
+        Way::ByJournal => seated_in(rt, alloc, world, &lists, (count, word)),
+        Way::ByTicket => seated_by_ticket(rt, alloc, world, &lists, (count, word)),
+    }
 }
 
 /// The same over a field of this world.
@@ -325,13 +346,56 @@ fn seated_in(
     seated(rt, alloc, &field, lists, &mut seats, steps)
 }
 
+/// A field on which commits draw their places, over the world, with a seat for each caller.
+fn ticket_field_of<'d>(
+    alloc: Global,
+    world: World,
+    lists: &'d Lists,
+) -> Result<(Field<'d, Idler, ByTicket>, Seats<Idler, ByTicket>), Fail>
+    requires some { 1 ≤ length lists.now.ids }
+    requires bots { All (All (λ id. IsSome (bot_at world id))) lists.now.ids }
+    ensures lists { IfOk result (λ made. made.0.terms.lists ≡ lists.now) }
+    ensures of { IfOk result (λ made. AreOf made.0 made.1) }
+    ensures all { IfOk result (λ made. All (λ seat. IsSome seat) made.1.seats) }
+{
+    match Field::make_tickets(alloc, &Idler, world, lists) {
+        Ok(made) => Ok(made),
+        Err(_) => Err(Fail::from("no field")),
+    }
+}
+
+/// The same over a field of this world on which commits draw their places, so that a node is claimed as a body is.
+fn seated_by_ticket(
+    rt: &impl Abort,
+    alloc: Global,
+    world: World,
+    lists: &Lists,
+    steps: (u32, u32),
+) -> Result<(), Fail>
+    requires some { 1 ≤ length lists.now.ids }
+    requires bots { All (All (λ id. IsSome (bot_at world id))) lists.now.ids }
+    requires few { steps.0 ≤ 8 }
+{
+    let (field, mut seats) = ticket_field_of(alloc, world, lists)?;
+    seated(rt, alloc, &field, lists, &mut seats, steps)
+}
+
 /// Every interleaving of the claim steps of two zones of the same four cells, and every beginning of one.
-#[test]
-fn each_interleaving_of_claims_is_that_of_the_core(rt: HostRuntime) -> Result<(), Fail> {
+fn each_agrees(rt: &impl Abort, alloc: Global, way: Way) -> Result<(), Fail> {
     for count in 0u32..9 {
         for word in 0..1u32 << count {
-            agree(&rt, rt.alloc(), count, word)?;
+            agree(rt, alloc, way, count, word)?;
         }
     }
     Ok(())
+}
+
+#[test]
+fn each_interleaving_of_claims_is_that_of_the_core(rt: HostRuntime) -> Result<(), Fail> {
+    each_agrees(&rt, rt.alloc(), Way::ByJournal)
+}
+
+#[test]
+fn each_interleaving_of_claims_by_ticket_is_that_of_the_core(rt: HostRuntime) -> Result<(), Fail> {
+    each_agrees(&rt, rt.alloc(), Way::ByTicket)
 }
