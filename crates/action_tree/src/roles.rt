@@ -7,44 +7,64 @@ ghost use Rattle.action_tree.specs.declared.role.Role.TheVariants as role;
 use crate::role::Role;
 use text_tokens::{TokenKind, is_same};
 
-/// The reserved words, by their first letters, and of one letter what stands most often first. A word that is not among them is a
-/// name.
-static WORDS: [(&str, Role); 48] = [
+// The reserved words, by their first letters, and of one letter what stands most often first. A word that is not among them
+// is a name.
+static A_WORDS: [(&str, Role); 6] = [
     ("and", Role::AndWord),
     ("amoebot", Role::Foreign),
     ("action", Role::ActionWord),
     ("any", Role::QuantifierWord),
     ("all", Role::QuantifierWord),
     ("at_head", Role::TestWord),
+];
+
+static C_WORDS: [(&str, Role); 3] = [
     ("contracted", Role::AtomWord),
     ("count", Role::CountWord),
     ("contract", Role::ContractWord),
-    ("do", Role::DoWord),
-    ("dir", Role::SideWord),
+];
+
+static D_WORDS: [(&str, Role); 2] = [("do", Role::DoWord), ("dir", Role::SideWord)];
+
+static E_WORDS: [(&str, Role); 4] = [
     ("end", Role::LastWord),
     ("else", Role::ElseWord),
     ("expanded", Role::AtomWord),
     ("expand", Role::ThroughWord),
+];
+
+static F_WORDS: [(&str, Role); 5] = [
     ("fi", Role::FiWord),
     ("for", Role::ForWord),
     ("free", Role::FreeWord),
     ("false", Role::AtomWord),
     ("first", Role::FirstWord),
-    ("guard", Role::GuardWord),
-    ("head", Role::EndWord),
+];
+
+static G_WORDS: [(&str, Role); 1] = [("guard", Role::GuardWord)];
+
+static H_WORDS: [(&str, Role); 1] = [("head", Role::EndWord)];
+
+static I_WORDS: [(&str, Role); 3] = [
     ("if", Role::IfWord),
     ("in", Role::InWord),
     ("inner", Role::InnerWord),
-    ("let", Role::LetWord),
-    ("linked", Role::TestWord),
-    ("move", Role::MoveWord),
-    ("mod6", Role::Mod6Word),
-    ("not", Role::NotWord),
-    ("none", Role::NoneWord),
+];
+
+static L_WORDS: [(&str, Role); 2] = [("let", Role::LetWord), ("linked", Role::TestWord)];
+
+static M_WORDS: [(&str, Role); 2] = [("move", Role::MoveWord), ("mod6", Role::Mod6Word)];
+
+static N_WORDS: [(&str, Role); 2] = [("not", Role::NotWord), ("none", Role::NoneWord)];
+
+static O_WORDS: [(&str, Role); 4] = [
     ("or", Role::OrWord),
     ("on", Role::SwitchWord),
     ("off", Role::SwitchWord),
     ("od", Role::OdWord),
+];
+
+static P_WORDS: [(&str, Role); 7] = [
     ("program", Role::ProgramWord),
     ("ports", Role::PortsWord),
     ("peer_dir", Role::SideWord),
@@ -52,13 +72,18 @@ static WORDS: [(&str, Role); 48] = [
     ("peer_expanded", Role::TestWord),
     ("push", Role::ThroughWord),
     ("pull", Role::ThroughWord),
+];
+
+static T_WORDS: [(&str, Role); 4] = [
     ("turn", Role::TurnWord),
     ("then", Role::ThenWord),
     ("true", Role::AtomWord),
     ("tail", Role::EndWord),
-    ("var", Role::VarWord),
-    ("when", Role::WhenWord),
 ];
+
+static V_WORDS: [(&str, Role); 1] = [("var", Role::VarWord)];
+
+static W_WORDS: [(&str, Role); 1] = [("when", Role::WhenWord)];
 
 const SIGNS: [(&str, Role); 13] = [
     ("(", Role::OpenSign),
@@ -94,23 +119,23 @@ fn words_from(letter: u8) -> &'static [(&'static str, Role)]
         ≡ roles.look_up role.AName roles.words (letter ∷ rest) }
 {
     match letter {
-        b'a' => &WORDS[0..6],
-        b'c' => &WORDS[6..9],
-        b'd' => &WORDS[9..11],
-        b'e' => &WORDS[11..15],
-        b'f' => &WORDS[15..20],
-        b'g' => &WORDS[20..21],
-        b'h' => &WORDS[21..22],
-        b'i' => &WORDS[22..25],
-        b'l' => &WORDS[25..27],
-        b'm' => &WORDS[27..29],
-        b'n' => &WORDS[29..31],
-        b'o' => &WORDS[31..35],
-        b'p' => &WORDS[35..42],
-        b't' => &WORDS[42..46],
-        b'v' => &WORDS[46..47],
-        b'w' => &WORDS[47..48],
-        _ => &WORDS[0..0],
+        b'a' => &A_WORDS,
+        b'c' => &C_WORDS,
+        b'd' => &D_WORDS,
+        b'e' => &E_WORDS,
+        b'f' => &F_WORDS,
+        b'g' => &G_WORDS,
+        b'h' => &H_WORDS,
+        b'i' => &I_WORDS,
+        b'l' => &L_WORDS,
+        b'm' => &M_WORDS,
+        b'n' => &N_WORDS,
+        b'o' => &O_WORDS,
+        b'p' => &P_WORDS,
+        b't' => &T_WORDS,
+        b'v' => &V_WORDS,
+        b'w' => &W_WORDS,
+        _ => &[],
     }
 }
 
