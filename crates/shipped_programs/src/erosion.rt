@@ -52,8 +52,8 @@ fn is_candidate(alloc: Global, port: PortExpr) -> Result<Guard, AllocError>
 fn lead(alloc: Global) -> Result<Action, AllocError>
     ensures { IfOk result (λ a. action_of a ∷ [] ≡ take 1 sample.erosion.actions) }
 {
-    let guard = lead_guard(alloc)?;
     let body = lead_body(alloc)?;
+    let guard = lead_guard(alloc)?;
     Ok(action(Word::new(b"lead", 0), guard, body, Move::None))
 }
 
@@ -90,12 +90,9 @@ fn no_other(alloc: Global) -> Result<Guard, AllocError>
 fn erode(alloc: Global) -> Result<Action, AllocError>
     ensures { IfOk result (λ a. action_of a ≡ sample.action (codes "erode") erode_guard erode_body tree.no_move) }
 {
-    Ok(action(
-        Word::new(b"erode", 0),
-        erode_guard(alloc)?,
-        erode_body(alloc)?,
-        Move::None,
-    ))
+    let body = erode_body(alloc)?;
+    let guard = erode_guard(alloc)?;
+    Ok(action(Word::new(b"erode", 0), guard, body, Move::None))
 }
 
 fn erode_guard(alloc: Global) -> Result<Guard, AllocError>

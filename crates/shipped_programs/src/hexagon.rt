@@ -120,8 +120,8 @@ fn points_here(alloc: Global, name: Word) -> Result<Guard, AllocError>
 fn root(alloc: Global) -> Result<Action, AllocError>
     ensures { IfOk result (λ a. action_of a ≡ sample.action (codes "root") root_guard root_body tree.no_move) }
 {
-    let guard = root_guard(alloc)?;
     let body = root_body(alloc)?;
+    let guard = root_guard(alloc)?;
     Ok(action(Word::new(b"root", 0), guard, body, Move::None))
 }
 
@@ -148,12 +148,9 @@ fn root_body(alloc: Global) -> Result<Vec<Stmt>, AllocError>
 fn follow(alloc: Global) -> Result<Action, AllocError>
     ensures { IfOk result (λ a. action_of a ≡ sample.action (codes "follow") follow_guard follow_body tree.no_move) }
 {
-    Ok(action(
-        Word::new(b"follow", 0),
-        follow_guard(alloc)?,
-        follow_body(alloc)?,
-        Move::None,
-    ))
+    let body = follow_body(alloc)?;
+    let guard = follow_guard(alloc)?;
+    Ok(action(Word::new(b"follow", 0), guard, body, Move::None))
 }
 
 fn follow_guard(alloc: Global) -> Result<Guard, AllocError>
@@ -184,12 +181,12 @@ fn let_and_put(
         ∷ tree.put (name_of name) (sample.sum_of_term (term_of term))
         ∷ tree.put (sample.example_name (codes "state")) (sample.sum_of_term (tree.number (sample.literal next))) ∷ []) }
 {
+    let port = first_port(alloc, guard)?;
     let value = one(alloc, term)?;
     let next = number(alloc, next)?;
-    let first = let_q(alloc, guard)?;
     three_stmts(
         alloc,
-        first,
+        Stmt::Let(Word::new(b"q", 0), port),
         Stmt::Put(name, value),
         Stmt::Put(state(), next),
     )
@@ -205,12 +202,9 @@ fn let_q(alloc: Global, guard: Guard) -> Result<Stmt, AllocError>
 fn retire(alloc: Global) -> Result<Action, AllocError>
     ensures { IfOk result (λ a. action_of a ≡ sample.action (codes "retire") retire_guard retire_body tree.no_move) }
 {
-    Ok(action(
-        Word::new(b"retire", 0),
-        retire_guard(alloc)?,
-        retire_body(alloc)?,
-        Move::None,
-    ))
+    let body = retire_body(alloc)?;
+    let guard = retire_guard(alloc)?;
+    Ok(action(Word::new(b"retire", 0), guard, body, Move::None))
 }
 
 fn retire_guard(alloc: Global) -> Result<Guard, AllocError>
@@ -308,11 +302,9 @@ fn go_guard(alloc: Global) -> Result<Guard, AllocError>
 fn room(alloc: Global) -> Result<Guard, AllocError>
     ensures { IfOk result (λ g. guard_of g ≡ room) }
 {
-    both(
-        alloc,
-        p_is(alloc, 1, 4)?,
-        Guard::Free(turned(alloc, p(), 1)?),
-    )
+    let next = turned(alloc, p(), 1)?;
+    let still = p_is(alloc, 1, 4)?;
+    both(alloc, still, Guard::Free(next))
 }
 
 fn drag(alloc: Global) -> Result<Action, AllocError>
@@ -321,12 +313,9 @@ fn drag(alloc: Global) -> Result<Action, AllocError>
         ≡ sample.action (codes "drag") drag_guard drag_body
         (tree.through tree.pull (tree.bound (sample.example_name (codes "q"))))) }
 {
-    Ok(action(
-        Word::new(b"drag", 0),
-        drag_guard(alloc)?,
-        drag_body(alloc)?,
-        Move::Pull(q()),
-    ))
+    let body = drag_body(alloc)?;
+    let guard = drag_guard(alloc)?;
+    Ok(action(Word::new(b"drag", 0), guard, body, Move::Pull(q())))
 }
 
 fn drag_guard(alloc: Global) -> Result<Guard, AllocError>
