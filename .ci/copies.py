@@ -9,8 +9,8 @@ import subprocess
 TOP = pathlib.Path(__file__).resolve().parent.parent
 TOOLCHAIN = "stand-in 1"
 
-# A stand-in for the toolchain. `rt ci` notes the files that it finds, says of each crate that it is proved, and
-# makes the program that RT_PROGRAM names.
+# A stand-in for the toolchain. `rt ci` notes the files that it finds, says of each crate that it is proved,
+# and makes the program that RT_PROGRAM names.
 STAND_IN = """#!/bin/bash
 case $* in
 version) echo "${RT_VERSION:-stand-in 1}" ;;
