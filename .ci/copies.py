@@ -1,4 +1,4 @@
-"""Copies of the repository, with a release of a program at hand and without the toolchain: for .ci/release and .ci/install."""
+"""Copies of the repository with a release of a program at hand, for .ci/release and .ci/install."""
 
 import hashlib
 import os
@@ -9,7 +9,8 @@ import subprocess
 TOP = pathlib.Path(__file__).resolve().parent.parent
 TOOLCHAIN = "stand-in 1"
 
-# A stand-in for the toolchain. `rt ci` notes the files that it finds, says of each crate that it is proved, and makes the program that RT_PROGRAM names.
+# A stand-in for the toolchain. `rt ci` notes the files that it finds, says of each crate that it is proved,
+# and makes the program that RT_PROGRAM names.
 STAND_IN = """#!/bin/bash
 case $* in
 version) echo "${RT_VERSION:-stand-in 1}" ;;
@@ -19,7 +20,8 @@ ci)
     [ -z "$RT_WAITS" ] || { echo "$$" > "${0%/*}/waits" && sleep 60; }
     [ -n "$RT_PROGRAM" ] || exit 1
     mkdir -p crates/amoebot/out
-    cp "$RT_PROGRAM" crates/amoebot/out/amoebot && cp "$RT_PROGRAM" crates/amoebot/out/amoebot.by-rattle ;;
+    cp "$RT_PROGRAM" crates/amoebot/out/amoebot
+    cp "$RT_PROGRAM" crates/amoebot/out/amoebot.by-rattle ;;
 esac
 """
 
@@ -36,13 +38,21 @@ def write_program(file, text):
 
 
 class Copy:
-    """A copy of the repository without what was built, and commands of its own: `bare` has all of the path but the toolchain, and `tools` a stand-in for that."""
+    """A copy of the repository without what was built, and commands of its own.
+
+    The folder `bare` has all commands of the path except the toolchain, and `tools` has a stand-in for that.
+    """
 
     def __init__(self, folder):
         folder = pathlib.Path(folder)
-        self.top, self.bare, self.tools, self.temporary = (folder / name for name in ("a copy", "bare", "tools", "temporary"))
+        self.top, self.bare = folder / "a copy", folder / "bare"
+        self.tools, self.temporary = folder / "tools", folder / "temporary"
         left_out = {TOP / name for name in (".git", "release", "try")}
-        shutil.copytree(TOP, self.top, symlinks=True, ignore=lambda at, names: [it for it in names if it == "out" or pathlib.Path(at, it) in left_out])
+
+        def ignored(at, names):
+            return [name for name in names if name == "out" or pathlib.Path(at, name) in left_out]
+
+        shutil.copytree(TOP, self.top, symlinks=True, ignore=ignored)
         for made in (self.bare, self.tools, self.temporary):
             made.mkdir()
         for place in reversed(os.get_exec_path()):
@@ -55,13 +65,15 @@ class Copy:
     def environment(self, toolchain=False, **more):
         """The variables of a call: without the toolchain, or with the stand-in."""
         path = f"{self.tools}:{self.bare}" if toolchain else str(self.bare)
-        kept = {name: value for name, value in os.environ.items() if not name.startswith(("RT_", "AMOEBOT", "GLIBC_TUNABLES"))}
-        return {**kept, "PATH": path, "TMPDIR": str(self.temporary), **{name: str(value) for name, value in more.items()}}
+        ours = ("RT_", "AMOEBOT", "GLIBC_TUNABLES")
+        kept = {name: value for name, value in os.environ.items() if not name.startswith(ours)}
+        more = {name: str(value) for name, value in more.items()}
+        return {**kept, "PATH": path, "TMPDIR": str(self.temporary), **more}
 
     def call(self, command, document=b"", toolchain=False, **more):
-        """The status of a command of a shell in the copy, what it writes, and what it says on standard error."""
-        how = {"cwd": self.top, "env": self.environment(toolchain, **more), "timeout": 120}
-        ended = subprocess.run(["bash", "-c", command], input=document, stdout=subprocess.PIPE, stderr=subprocess.PIPE, **how)
+        """The status of a shell's command in the copy, what it writes, and what it says on standard error."""
+        how = {"cwd": self.top, "env": self.environment(toolchain, **more), "timeout": 300}
+        ended = subprocess.run(["bash", "-c", command], input=document, capture_output=True, **how)
         return ended.returncode, ended.stdout.decode(errors="replace"), ended.stderr.decode(errors="replace")
 
     def sources(self):
@@ -78,7 +90,8 @@ class Copy:
 
     def write_facts(self, toolchain, sources, program):
         """Writes the facts of the release."""
-        (self.top / "release/amoebot.built").write_text(f"toolchain {toolchain}\nsources {sources}\nprogram {program}\n")
+        facts = f"toolchain {toolchain}\nsources {sources}\nprogram {program}\n"
+        (self.top / "release/amoebot.built").write_text(facts)
 
     def forget(self):
         """Removes what was built and told in the copy."""
