@@ -6,7 +6,7 @@ ghost use Rattle.turn_desks.specs.Desks.{HasMade, HaveMade, MakesTurns};
 use crate::start::Start;
 use crate::turning::Turning;
 use amoebot_state::Decider;
-use claim_core::{Lists, Mark};
+use claim_core::Lists;
 use std::mem::swap;
 use std::sync::Wait;
 use std::thread;
@@ -49,8 +49,9 @@ pub fn make_all<
     thread::for_each_mut(rt, desks, WORKERS, &worker);
 }
 
-/// One worker: begins with the others, makes all turns of a caller in their order, and keeps the answer of each. Meanwhile the desk is
-/// its own, apart from those of the others: they lie side by side in memory, and what one writes there slows the others down.
+/// One worker: begins with the others, makes all turns of a caller in their order, and keeps the answer of each. Where there are others it
+/// keeps step with them: what its amoebots wait for may be their turn. Meanwhile the desk is its own, apart from those of the others: they
+/// lie side by side in memory, and what one writes there slows the others down.
 fn make_turns<
     R: Wait,
     D: Decider,
@@ -78,14 +79,17 @@ fn make_turns<
     };
     swap(desk, &mut own);
     start.begin();
+    let mut far = 0;
     for turn in 0..lists.turns() {
         make_turn(rt, turning, make, lists, caller, turn, &mut own);
+        if lists.callers() > 1 {
+            far = start.pace(turn, lists.turns(), far);
+        }
     }
     *desk = own;
 }
 
-/// Makes one turn of a caller. Where there are others, and the turn has changed nothing, the worker lets them go first: what its amoebots
-/// wait for may be their turn.
+/// Makes one turn of a caller.
 fn make_turn<
     R: Wait,
     D: Decider,
@@ -113,9 +117,6 @@ fn make_turn<
     };
     let bot = lists.bot(caller, turn);
     let (seat, answer) = make(turn, bot, seat);
-    if lists.callers() > 1 && !matches!(turning.mark(&answer), Mark::Done { .. }) {
-        thread::yield_now();
-    }
     desk.seat = Some(seat);
     desk.turns.push_reserved(answer);
 }
