@@ -3,4 +3,4 @@ use Rattle.zone_tests.specs.Walks.{IsWalker}
 use Rattle.zone_tests.proofs.walks.walked.Given as goal
 
 abbrev pub invariant-loop-step : goal.invariant-loop-step
-invariant-loop-step l = IsWalker l.field l.walkers.0 × IsWalker l.field l.walkers.1 × (length l.core.state.callers ≡ 2)
+invariant-loop-step g l = IsWalker l.field l.walkers.0 × IsWalker l.field l.walkers.1 × (length l.core.state.callers ≡ 2)
