@@ -49,9 +49,10 @@ pub fn make_all<
     thread::for_each_mut(rt, desks, WORKERS, &worker);
 }
 
-/// One worker: begins with the others, makes all turns of a caller in their order, and keeps the answer of each. Where there are others it
-/// keeps step with them: what its amoebots wait for may be their turn. Meanwhile the desk is its own, apart from those of the others: they
-/// lie side by side in memory, and what one writes there slows the others down.
+/// One worker: begins with the others, makes all turns of a caller in their order, and keeps the answer of
+/// each. Between two turns it keeps step with the others: what its amoebots wait for may be their turn.
+/// Meanwhile the desk is its own, apart from those of the others: they lie side by side in memory, and what
+/// one writes there slows the others down.
 fn make_turns<
     R: Wait,
     D: Decider,
@@ -79,11 +80,11 @@ fn make_turns<
     };
     swap(desk, &mut own);
     start.begin();
-    let mut far = 0;
+    let mut lack = 0;
     for turn in 0..lists.turns() {
         make_turn(rt, turning, make, lists, caller, turn, &mut own);
         if lists.callers() > 1 {
-            far = start.pace(turn, lists.turns(), far);
+            lack = start.pace(turn, lists.turns(), lack);
         }
     }
     *desk = own;
