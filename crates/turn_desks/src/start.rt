@@ -13,7 +13,7 @@ const MOST_LOOKS: u32 = 524_288;
 
 /// A worker that has made some turns is ahead while the others together lack too many to have made as many
 /// each: more than one for each worker, and so many.
-const APART: u64 = 6;
+const APART: u64 = 5;
 
 /// In lists of so many turns the others may lack one turn more while they do not move.
 const LOOSER: u32 = 64;
@@ -76,10 +76,10 @@ impl Start {
         self.wait(own, turns, lack)
     }
 
-    /// Waits until all workers together have made so many turns as `own`, except for those that they may lack.
+    /// Waits until all workers together have made as many turns as `own`, except for what they may lack.
     /// - Where they come to it while the worker only looks, its next steps are tighter.
     /// - Each time that it lets other threads go first its steps are looser, up to a bound that grows with
-    ///   the lists. Where other processes have the processors, one time may take as long as thousands of turns.
+    ///   the lists. Where other processes have the processors, one time may take as long as a thousand turns.
     /// - After the last time the steps of all are looser for good, so in the end nobody waits.
     fn wait(&self, own: u64, turns: u32, lack: u64) -> u64 {
         let least = self.apart.load(Ordering::SeqCst);

@@ -18,6 +18,8 @@ mod machine;
 #[cfg(test)]
 mod meeting;
 #[cfg(test)]
+mod pacing;
+#[cfg(test)]
 mod reports;
 #[cfg(test)]
 mod runs;
