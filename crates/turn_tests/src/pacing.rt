@@ -1,4 +1,5 @@
-//! Long lists, of which one is held in its first turn: the others wait for it for a bounded time, and then make all their turns.
+//! Long lists, of which some are held in their first turn: the others wait for them for a bounded time, and then
+//! make all their turns.
 use crate::meeting::scattered;
 use crate::runs::{WAYS, Way, report_over};
 use activation::Gate;
@@ -23,8 +24,8 @@ static LISTS: [&[u16]; 4] = [
 /// How many turns each caller has. Workers that keep step for ever never come to the last one.
 const TURNS: u32 = 1000;
 
-/// Some callers wait in their first turn until each of the others has come in its last turn; or until their looks are used up, and then they
-/// have missed them.
+/// Some callers wait in their first turn until each of the others has come in its last turn; or until their
+/// looks are used up, and then they have missed them.
 #[derive(Drop)]
 struct HoldingGate {
     held: u8,
@@ -48,7 +49,12 @@ impl HoldingGate {
 
     fn wait(&self) {
         for _look in 0..20_000_000u32 {
-            if self.came.load(Ordering::SeqCst).wrapping_add(u64::from(self.held)) == 4 {
+            if self
+                .came
+                .load(Ordering::SeqCst)
+                .wrapping_add(u64::from(self.held))
+                == 4
+            {
                 return;
             }
             thread::yield_now();
