@@ -15,8 +15,11 @@ const MOST_LOOKS: u32 = 524_288;
 /// each: more than one for each worker, and so many.
 const APART: u64 = 5;
 
-/// In lists of so many turns the others may lack one turn more while they do not move.
-const LOOSER: u32 = 64;
+/// In lists of so many turns the others may lack one turn more for each worker while they do not move, and as
+/// if there were four workers where there are fewer.
+const LOOSER: u64 = 256;
+
+const AS_FEW: u64 = 4;
 
 /// So many times as many turns may they lack after a worker has waited in vain.
 const FURTHER: u64 = 8;
@@ -83,7 +86,8 @@ impl Start {
     /// - After the last time the steps of all are looser for good, so in the end nobody waits.
     fn wait(&self, own: u64, turns: u32, lack: u64) -> u64 {
         let least = self.apart.load(Ordering::SeqCst);
-        let most = least.saturating_add(u64::from(turns / LOOSER));
+        let more = u64::from(turns).wrapping_mul(self.workers.max(AS_FEW)) / LOOSER;
+        let most = least.saturating_add(more);
         let mut lack = lack.max(least);
         if reaches(&self.made, own.saturating_sub(lack), LOOKS) {
             return (lack / 2).max(least);

@@ -1,5 +1,5 @@
-//! Long lists, of which one is held in its first turn: the others wait for it for a bounded time, and then
-//! make all their turns.
+//! Long lists, of which some are held in their first turn: the others wait for them for a bounded time, and
+//! then make all their turns.
 use crate::meeting::scattered;
 use crate::runs::{WAYS, Way, report_over};
 use activation::Gate;
@@ -49,7 +49,12 @@ impl HoldingGate {
 
     fn wait(&self) {
         for _look in 0..20_000_000u32 {
-            if self.came.load(Ordering::SeqCst).wrapping_add(u64::from(self.held)) == 4 {
+            if self
+                .came
+                .load(Ordering::SeqCst)
+                .wrapping_add(u64::from(self.held))
+                == 4
+            {
                 return;
             }
             thread::yield_now();
