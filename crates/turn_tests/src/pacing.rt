@@ -22,7 +22,7 @@ static LISTS: [&[u16]; 4] = [
 ];
 
 /// How many turns each caller has. Workers that keep step for ever never come to the last one.
-const TURNS: u32 = 200;
+const TURNS: u32 = 560;
 
 /// Some callers wait in their first turn until each of the others has come in its last turn; or until their
 /// looks are used up, and then they have missed them.
