@@ -4,7 +4,7 @@ use std::thread;
 /// How often a worker that waits lets other threads go first. After so many times it waits no longer.
 const TIMES: u32 = 100;
 
-/// How often it looks before the first time: some microseconds long. Between two times it looks twice as
+/// How often it looks before the first time: a microsecond or two long. Between two times it looks twice as
 /// often as before, since who looks has a processor that another worker may need.
 const LOOKS: u32 = 4_000;
 

@@ -22,7 +22,7 @@ static LISTS: [&[u16]; 4] = [
 ];
 
 /// How many turns each caller has. Workers that keep step for ever never come to the last one.
-const TURNS: u32 = 1000;
+const TURNS: u32 = 560;
 
 /// Some callers wait in their first turn until each of the others has come in its last turn; or until their
 /// looks are used up, and then they have missed them.
@@ -95,7 +95,7 @@ fn wait_for_nobody_long<R: Abort + Threads + Wait + Sync>(
 #[test]
 fn nobody_keeps_step_for_long_with_workers_that_are_held(rt: HostRuntime) -> Result<(), Fail> {
     for way in WAYS {
-        for held in 1..4 {
+        for held in [1, 3] {
             wait_for_nobody_long(&rt, rt.alloc(), way, held)?;
         }
     }
