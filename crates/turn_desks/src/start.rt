@@ -13,7 +13,7 @@ const MOST_LOOKS: u32 = 524_288;
 
 /// A worker that has made some turns is ahead while the others together lack too many to have made as many
 /// each: more than one for each worker, and so many.
-const APART: u64 = 5;
+const APART: u64 = 2;
 
 /// In lists of so many turns the others may lack one turn more for each worker while they do not move, and as
 /// if there were four workers where there are fewer.
