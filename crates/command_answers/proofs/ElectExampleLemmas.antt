@@ -123,7 +123,7 @@ is_led = record { told = inr refl; agrees = (one_leader, leads, refl) }
 
 -- the row has three nodes and not four
 differs : JournalDiffers (recorded one_candidate [] candidate_elsewhere) its_other 0
-differs = in_plain [] 0 refl (at_end one_candidate refl (λ same. let wide : ◌≡◌ {A = ℕ} 3 4 = ap (λ (c : Config). c.area.w) same in omega (arith, wide)))
+differs = in_plain [] 0 refl (at_end one_candidate (record { source = []; tells = refl; holds = refl }) (λ same. let wide : ◌≡◌ {A = ℕ} 3 4 = ap (λ (c : Config). c.area.w) same in omega (arith, wide)))
 
 nobody_is_ready : ¬ IsReadyStart erosion_row
 nobody_is_ready is = false≢true is.some.1

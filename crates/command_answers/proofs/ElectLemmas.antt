@@ -3,7 +3,6 @@ use Rattle.std.proofs.Common.{◌≡◌, ◌≢◌, ◌⊎◌, ℕ, List, length
 use Rattle.std.specs.Prelude.{IfErr, IfSome, MatchResult, OnOk, ⊤}
 use Rattle.std.proofs.lemmas.Option.{same_Some}
 use Rattle.amoebot_state.specs.declared.verdict.Entry.{Entry}
-use Rattle.amoebot_state.specs.declared.verdict.PlainEntry.{PlainEntry}
 use Rattle.amoebot_state.specs.Configs.{Config, IsValid}
 use Rattle.serial_model.specs.declared.replays.Differs.{Differs}
 use Rattle.action_tree.specs.Trees.{Program}
@@ -20,8 +19,7 @@ use Rattle.shape_files.specs.Documents.{Contents, HasContents}
 use Rattle.shape_files.specs.LeastVersions.{DecidedFromEach}
 use Rattle.shape_files.specs.Fitting.{DocumentsAreSound, IsWorldShape}
 use Rattle.command_runs.specs.Elect.{election_text}
-use Rattle.command_runs.specs.Laws.{ReplayIsDecided}
-use Rattle.command_runs.specs.Replay.{Agrees, DiffersAt, agrees_line, differs_line}
+use Rattle.command_runs.specs.Replay.{AgreesIn, DiffersAt, agrees_line, differs_line}
 use Rattle.command_words.specs.declared.command.DocumentCommand.TheVariants.{Elect, Replay}
 use Rattle.command_answers.specs.declared.answer.Answer.{Answer}
 use Rattle.command_answers.specs.declared.status.Status.{Status}
@@ -29,14 +27,14 @@ use Rattle.command_answers.specs.declared.status.Status.TheVariants as status
 use Rattle.command_answers.specs.Answers.{IsAnswerTo, differs_with, elected_with, refused_with}
 use Rattle.command_answers.specs.ElectLaws.{ElectEndsAsReplay, ElectionsAreWon, IsWonElection}
 use Rattle.command_answers.specs.Lines.{bad_start, not_erosion, refusal_line}
-use Rattle.command_answers.specs.Outcomes.{DocumentRecord, IsOutcome, JournalAgrees, JournalDiffers, in_full, in_plain, agreeing, differing, no_erosion, not_ready, not_elected, elected}
+use Rattle.command_answers.specs.Outcomes.{DocumentRecord, IsOutcome, JournalAgrees, JournalDiffers, agreeing, differing, no_erosion, not_ready, not_elected, elected}
 use Rattle.command_answers.specs.Owed.{served}
 use Rattle.command_answers.specs.Reads.{whole}
 use Rattle.command_answers.specs.RenewLaws.{IsOwedFor}
-use Rattle.command_answers.specs.Told.{TellsElection, TellsJournal, TellsPlainElection, of_agreeing, of_differing, of_following, of_straying}
+use Rattle.command_answers.specs.Told.{TellsRun, of_agreeing, of_differing}
 use Rattle.command_answers.proofs.Outcomes.{documents_have_outcomes}
 use Rattle.command_answers.proofs.OwedTexts.{same_answer}
-use Rattle.command_answers.proofs.RecordedLemmas.{of_journal}
+use Rattle.command_answers.proofs.RecordedLemmas.{IsJournalIn, answers}
 
 -- ---- what is answered
 
@@ -57,38 +55,31 @@ module _ (a : Contents) (d : DocumentRecord a) (answer : Answer) where
   tells_election erodes ready es agrees is = same_answer Elect a answer (elected_with (value_count d.final cand_var 1) (leader_of d.final)) is (λ bytes h.
       served Elect bytes a status.Done None (election_text (value_count d.final cand_var 1) (leader_of d.final)) h (elected d es erodes ready agrees))
 
-  -- what is told of the journal of an election that began
-  tells_full : IsErosion d.program → IsReadyStart d.start → (es : List Entry) → a.entries ≡ Some es → TellsElection d.program d.start d.final es answer → IsAnswerTo Elect a answer
-  tells_full erodes ready es its (of_agreeing run is) = tells_election erodes ready es (record { told = inl its; agrees = run }) is
-  tells_full erodes ready es its (of_differing place differs is) = tells_difference erodes ready place (in_full es place its differs) is
-
-  tells_plain : ReplayIsDecided → IsErosion d.program → IsReadyStart d.start → (ps : List PlainEntry) → a.plain ≡ Some ps → TellsPlainElection d.program d.start d.final ps answer → IsAnswerTo Elect a answer
-  tells_plain decided erodes ready ps its (of_following es same run (of_agreeing agrees is)) = tells_election erodes ready es (record { told = inr (its ∙ ap Some (sym same)); agrees = run }) is
-  tells_plain decided erodes ready ps its (of_following es same run (of_differing place differs is)) = absurd (decided.exclusive (verdict_shown d.program) d.start d.final es place run differs)
-  tells_plain decided erodes ready ps its (of_straying place differs is) = tells_difference erodes ready place (in_plain ps place its differs) is
-
-  pub tells_journal : ReplayIsDecided → IsErosion d.program → IsReadyStart d.start → (e : ElectionState) → e ≡ record { program = d.program; world = d.start; steps = 0 }
-      → TellsJournal (TellsElection e.program e.world d.final) (TellsPlainElection e.program e.world d.final) a.entries a.plain answer → IsAnswerTo Elect a answer
-  tells_journal decided erodes ready e began told =
-      of_journal (TellsElection d.program d.start d.final) (TellsPlainElection d.program d.start d.final) (IsAnswerTo Elect a answer) answer a.entries a.plain
-      (tells_full erodes ready) (tells_plain decided erodes ready)
-      (subst (λ (x : ElectionState). TellsJournal (TellsElection x.program x.world d.final) (TellsPlainElection x.program x.world d.final) a.entries a.plain answer) began told)
-
   -- a start that is refused for something else than memory
   pub tells_refusal : IsErosion d.program → ReadyHasNone → (e : ElectRefusal) → IsFirstUnready d.start e ⊎ ((e ≡ NoMemory) × AreBotsReady d.start)
       → (e ≢ NoMemory) × (answer ≡ refused_with bad_start) → IsAnswerTo Elect a answer
   tells_refusal erodes none e (inl first) is = tells_bad_start erodes (λ ready. none d.start e ready first) is.1
   tells_refusal erodes none e (inr short) is = absurd (is.0 short.0)
 
+-- what is told of the journal of an election that began
+abbrev Elected : Config → List Entry → Answer → Type 0
+Elected final es answer = answer ≡ elected_with (value_count final cand_var 1) (leader_of final)
+
+pub tells_journal : {E : Type 0} {form : Entry → E} (a : Contents) (d : DocumentRecord a) (told : List E) → IsJournalIn form a d told → (answer : Answer) → IsErosion d.program → IsReadyStart d.start → (e : ElectionState) → e ≡ record { program = d.program; world = d.start; steps = 0 }
+    → TellsRun form e.program e.world told d.final (Elected d.final) answer → IsAnswerTo Elect a answer
+tells_journal {E} {form} a d told is answer erodes ready e began by =
+    answers is Elect (Elected d.final) answer (tells_election a d answer erodes ready) (tells_difference a d answer erodes ready)
+    (subst (λ (x : ElectionState). TellsRun form x.program x.world told d.final (Elected d.final) answer) began by)
+
 -- what is told of the steps of its entries
-pub tells_steps : (p : Program) (start : Config) (es : List Entry) (final : Config) (answer : Answer) (made : Result ⊤ Differs) (world : Config)
-    → OnOk made (Agrees (verdict_shown p) start es final)
+pub tells_steps : {E : Type 0} (form : Entry → E) (p : Program) (start : Config) (told : List E) (final : Config) (answer : Answer) (made : Result ⊤ Differs) (world : Config)
+    → OnOk made (AgreesIn form (verdict_shown p) start told final)
     → OnOk made (world ≡ final)
-    → IfErr made (λ x. DiffersAt (verdict_shown p) start es final x.place)
+    → IfErr made (λ x. DiffersAt form (verdict_shown p) start told final x.place)
     → MatchResult made (λ _. answer ≡ elected_with (value_count world cand_var 1) (leader_of world)) (λ x. answer ≡ differs_with x.place)
-    → TellsElection p start final es answer
-tells_steps p start es final answer (Ok u) world agrees reached differs is = of_agreeing agrees (is ∙ ap (λ (c : Config). elected_with (value_count c cand_var 1) (leader_of c)) reached)
-tells_steps p start es final answer (Err x) world agrees reached differs is = of_differing x.place differs is
+    → TellsRun form p start told final (Elected final) answer
+tells_steps form p start told final answer (Ok u) world agrees reached differs is = of_agreeing agrees.source agrees.tells agrees.holds (is ∙ ap (λ (c : Config). elected_with (value_count c cand_var 1) (leader_of c)) reached)
+tells_steps form p start told final answer (Err x) world agrees reached differs is = of_differing x.place differs is
 
 -- ---- elections are won
 

@@ -1,38 +1,21 @@
 -- The steps of an election, one entry after another.
-use Rattle.std.proofs.Common.{◌≡◌, ◌≢◌, ◌<◌, ◌+◌, ◌++◌, [], ◌∷◌, ℕ, List, length, take, get_or, Some, ap, sym, subst, ◌∙◌}
+use Rattle.std.proofs.Common.{◌≡◌, ◌<◌, ◌+◌, ◌++◌, [], ◌∷◌, ℕ, List, length, take, get_or, ap, sym, subst, ◌∙◌}
 use Rattle.std.proofs.lemmas.List.{take_more}
-use Rattle.std.proofs.lemmas.Option.{slice_get-get_or}
-use Rattle.std.proofs.Math.Seq.{take-length}
 use Rattle.amoebot_state.specs.declared.verdict.Entry.{Entry}
 use Rattle.amoebot_state.specs.declared.verdict.Verdict.{Verdict}
 use Rattle.amoebot_state.specs.Configs.{Config}
-use Rattle.amoebot_state.specs.Steps.{Run, Step}
 use Rattle.amoebot_state.specs.Zones.{Shown}
-use Rattle.amoebot_state.proofs.Runs.{run_push}
-use Rattle.serial_model.specs.Replays.{IsNoStep}
-use Rattle.command_runs.specs.Replay.{DiffersAt, at_entry, at_end}
+use Rattle.serial_model.specs.Replays.{IsNoStep, RunIn, StepIn}
+use Rattle.serial_model.proofs.Runs.{run_push}
+use Rattle.command_runs.specs.Replay.{DiffersAt}
+use Rattle.command_runs.proofs.ToldEntries.{stops}
 
-module _ (f : Shown → Verdict) (start : Config) (entries : List Entry) (world : Config) (place : ℕ) (made : Run f start (take place entries) world) where
+module _ {E : Type 0} (form : Entry → E) (f : Shown → Verdict) (start : Config) (told : List E) (world : Config) (place : ℕ) (made : RunIn form f start (take place told) world) where
   -- the next entry is a step
-  pub made_more : (e : Entry) (new : Config) → place < length entries → e ≡ get_or entries place e → Step f world e new → Run f start (take (place + 1) entries) new
-  made_more e new below is step =
-      subst (λ (es : List Entry). Run f start es new) (ap (λ (d : Entry). take place entries ++ d ∷ []) is ∙ sym (take_more entries place e below)) (run_push f start world new (take place entries) e made step)
+  pub made_more : (next : E) (new : Config) → place < length told → next ≡ get_or told place next → StepIn form f world next new → RunIn form f start (take (place + 1) told) new
+  made_more next new below is step =
+      subst (λ (es : List E). RunIn form f start es new) (ap (λ (d : E). take place told ++ d ∷ []) is ∙ sym (take_more told place next below)) (run_push form f start world new (take place told) next made step)
 
   -- or it is none
-  pub stops_at : (final : Config) (at : ℕ) (e : Entry) → place < length entries → e ≡ get_or entries place e → IsNoStep f world e → at ≡ place → DiffersAt f start entries final at
-  stops_at final at e below is none told =
-      subst (λ (k : ℕ). DiffersAt f start entries final k) (sym told) (at_entry place (record {
-        entry = e;
-        there = slice_get-get_or entries place e below ∙ ap Some (sym is);
-        world = world;
-        before = made;
-        none = none;
-      }))
-
-  -- all were steps
-  pub made_all : place ≡ length entries → Run f start entries world
-  made_all end = subst (λ (es : List Entry). Run f start es world) (ap (λ (k : ℕ). take k entries) end ∙ take-length entries) made
-
-  -- to another world
-  pub leads_astray : (final : Config) → place ≡ length entries → world ≢ final → DiffersAt f start entries final (length entries)
-  leads_astray final end other = at_end world (made_all end) other
+  pub stops_at : (final : Config) (at : ℕ) (next : E) → place < length told → next ≡ get_or told place next → IsNoStep form f world next → at ≡ place → DiffersAt form f start told final at
+  stops_at final at next below is none same = subst (λ (k : ℕ). DiffersAt form f start told final k) (sym same) (stops form told f start world final next place below is made none)

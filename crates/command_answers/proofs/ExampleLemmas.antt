@@ -7,7 +7,7 @@ use Rattle.std.proofs.lemmas.List.Elements.{All-nil, All-cons}
 use Rattle.text_tokens.specs.Kinds.{name}
 use Rattle.amoebot_state.specs.Configs.{Config, IsValid, bot_at, occupant}
 use Rattle.amoebot_state.specs.Steps.{plain_entry}
-use Rattle.serial_model.specs.Replays.{PlainRun}
+use Rattle.serial_model.specs.Replays.{RunIn}
 use Rattle.amoebot_state.proofs.Faults.{frame_valid, valid_one}
 use Rattle.amoebot_state.proofs.Occupants.{plain_in}
 use Rattle.model_ops.proofs.ActsDecide.{acts_keep_decider_laws}
@@ -139,9 +139,9 @@ module _ (goods : ReachedIsGood) where
   both_good : Good (verdict_shown out) one_alone two_lists two_callers_report
   both_good = goods both both_may_run two_callers_report both_reached
 
-  -- its entry without its old values is a step of the same kind
-  plain_run : PlainRun (verdict_shown out) one_alone (plain_entry expansion ∷ []) spread_config
-  plain_run = let run = good.run in (run.0, record { entry = expansion; plain = refl; step = run.1 }, run.2)
+  -- its entry without its old values is that of a run
+  plain_run : RunIn plain_entry (verdict_shown out) one_alone (plain_entry expansion ∷ []) spread_config
+  plain_run = record { source = expansion ∷ []; tells = refl; holds = good.run }
 
   its_journal_agrees : JournalAgrees (and_journal spread_config) (its_record spread_config) (expansion ∷ [])
   its_journal_agrees = record { told = inr refl; agrees = good.run }

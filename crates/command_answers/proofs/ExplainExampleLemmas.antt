@@ -1,5 +1,5 @@
 -- The answers of the samples of version 3, and of `rewind`, `rounds` and `elect`.
-use Rattle.std.proofs.Common.{◌≡◌, ◌<◌, ◌≤◌, ◌∙◌, ℕ, [], ◌∷◌, ◌++◌, length, get_or, None, Some, inl, inr, Ok, Err, refl, ap, sym, arith}
+use Rattle.std.proofs.Common.{subst, ◌≡◌, ◌<◌, ◌≤◌, ◌∙◌, ℕ, [], ◌∷◌, ◌++◌, length, get_or, None, Some, inl, inr, Ok, Err, refl, ap, sym, arith}
 use Rattle.std.specs.Fmt.{digits}
 use Rattle.std.proofs.lemmas.List.Elements.{All-head}
 use Rattle.text_tokens.specs.Kinds.{name}
@@ -8,10 +8,12 @@ use Rattle.amoebot_state.specs.declared.cell.Cell.{Cell}
 use Rattle.amoebot_state.specs.declared.cell.Cell.TheVariants as cell
 use Rattle.amoebot_state.specs.declared.cell.CellName.{CellName}
 use Rattle.amoebot_state.specs.declared.cell.CellName.TheVariants as cell_name
+use Rattle.amoebot_state.specs.declared.verdict.Entry.{Entry}
 use Rattle.amoebot_state.specs.declared.verdict.Verdict.{Verdict}
 use Rattle.amoebot_state.specs.declared.verdict.Verdict.TheVariants as verdict
 use Rattle.amoebot_state.specs.Configs.{value}
 use Rattle.amoebot_state.specs.Pairs.{Triples, cell_of, cell_value}
+use Rattle.amoebot_state.specs.Steps.{Step}
 use Rattle.claim_core.specs.Laws.{ReachedIsGood}
 use Rattle.rewind_log.specs.Rewinds.{IsBack, IsLastNoStep}
 use Rattle.rewind_log.specs.Unwinding.{HasSameFrame, at_place, no_way_back, other_frame}
@@ -114,9 +116,10 @@ module _ (goods : ReachedIsGood) where
     entry = other_expansion;
     there = refl;
     world = one_alone;
-    before = refl;
-    none = λ new s.
-        let same : expansion.patch ≡ other_expansion.patch = ap changes_of (sym (good goods).run.1.decided ∙ s.decided) in
+    before = record { source = []; tells = refl; holds = refl };
+    none = λ new by.
+        let step : Step (verdict_shown out) one_alone other_expansion new = subst (λ (e : Entry). Step (verdict_shown out) one_alone e new) by.tells by.holds in
+        let same : expansion.patch ≡ other_expansion.patch = ap changes_of (sym (good goods).run.1.decided ∙ step.decided) in
         let first : cell.Spot None ≡ cell.Spot (Some 0) = ap (λ (ts : Triples). (get_or ts 0 (cell_name.Body 0, cell.Spot None, cell.Spot None)).1) same in
         cc;
   }))

@@ -9,7 +9,9 @@ use Rattle.amoebot_state.specs.declared.verdict.PlainEntry.{PlainEntry}
 use Rattle.amoebot_state.specs.Configs.{Config}
 use Rattle.amoebot_state.specs.Steps.{OldValuesAreFound, plain_entry}
 use Rattle.model_ops.specs.Laws.{ActsKeepDeciderLaws}
-use Rattle.serial_model.specs.Laws.{PlainRunIsRun, PlainRunIsUnique}
+use Rattle.serial_model.specs.Forms.{full_entry}
+use Rattle.serial_model.specs.Laws.{PlainRunIsUnique}
+use Rattle.serial_model.proofs.Runs.{full_is_itself}
 use Rattle.claim_core.specs.declared.report.Report.{Report}
 use Rattle.claim_core.specs.Machine.{setup}
 use Rattle.claim_core.specs.TicketLaws.{TicketReachedIsReached}
@@ -34,7 +36,7 @@ use Rattle.command_runs.specs.Run.{IsRunReport, IsRunText}
 use Rattle.command_runs.specs.Interleave.{IsInterleaveReport, IsInterleaveText}
 use Rattle.command_runs.specs.Elect.{election_text}
 use Rattle.command_runs.specs.Rounds.{rounds_text}
-use Rattle.command_runs.specs.Replay.{agrees_line, differs_line, Agrees, DiffersAt, PlainDiffersAt}
+use Rattle.command_runs.specs.Replay.{agrees_line, differs_line, Agrees, DiffersAt}
 use Rattle.command_runs.specs.Renew.{renewed_text}
 use Rattle.command_runs.specs.Reports.{report_text}
 use Rattle.command_runs.specs.Check.{check_text}
@@ -92,10 +94,10 @@ agrees_as : (a : Contents) (d e : DocumentRecord a) (es : List Entry) → Journa
 agrees_as a d e es x = record { told = x.told; agrees = subst (λ (z : Program × Config × Config). Agrees (verdict_shown z.0) z.1 es z.2) (one_record a d e) x.agrees }
 
 differs_as : (a : Contents) (d e : DocumentRecord a) (place : ℕ) → JournalDiffers a e place → JournalDiffers a d place
-differs_as a d e place (in_full es there its by) = in_full es there its (subst (λ (z : Program × Config × Config). DiffersAt (verdict_shown z.0) z.1 es z.2 there) (one_record a d e) by)
-differs_as a d e place (in_plain ps there its by) = in_plain ps there its (subst (λ (z : Program × Config × Config). PlainDiffersAt (verdict_shown z.0) z.1 ps z.2 there) (one_record a d e) by)
+differs_as a d e place (in_full es there its by) = in_full es there its (subst (λ (z : Program × Config × Config). DiffersAt full_entry (verdict_shown z.0) z.1 es z.2 there) (one_record a d e) by)
+differs_as a d e place (in_plain ps there its by) = in_plain ps there its (subst (λ (z : Program × Config × Config). DiffersAt plain_entry (verdict_shown z.0) z.1 ps z.2 there) (one_record a d e) by)
 
-module _ (replays : ReplayIsDecided) (is_run : PlainRunIsRun) (unique : PlainRunIsUnique) (a : Contents) (fit : FitTogether a) (d : DocumentRecord a) where
+module _ (full : ReplayIsDecided full_entry) (plain : ReplayIsDecided plain_entry) (unique : PlainRunIsUnique) (a : Contents) (fit : FitTogether a) (d : DocumentRecord a) where
   -- it agrees by the entries of one run
   same_entries : (es ds : List Entry) → JournalAgrees a d es → JournalAgrees a d ds → es ≡ ds
   same_entries es ds x y = by x.told y.told
@@ -109,21 +111,21 @@ module _ (replays : ReplayIsDecided) (is_run : PlainRunIsRun) (unique : PlainRun
   -- where it differs it does not agree, and it differs at one place
   not_agreeing : (es : List Entry) (place : ℕ) → JournalAgrees a d es → JournalDiffers a d place → ⊥
   not_agreeing es place x (in_full ds there its by) = elim x.told [
-    | inl one ↦ replays.exclusive (verdict_shown d.program) d.start d.final es there x.agrees (subst (λ (zs : List Entry). DiffersAt (verdict_shown d.program) d.start zs d.final there) (one_at _ ds es its one) by)
+    | inl one ↦ full.exclusive (verdict_shown d.program) d.start d.final es there ((full_is_itself.run (verdict_shown d.program) d.start d.final es).1 x.agrees) (subst (λ (zs : List Entry). DiffersAt full_entry (verdict_shown d.program) d.start zs d.final there) (one_at _ ds es its one) by)
     | inr one ↦ not_in_both a ds (map plain_entry es) fit its one
   ]
   not_agreeing es place x (in_plain ps there its by) = elim x.told [
     | inl one ↦ not_in_both a es ps fit one its
-    | inr one ↦ replays.plain_exclusive (verdict_shown d.program) d.start d.final ps there ((is_run (verdict_shown d.program) d.start d.final ps).1 (es, one_at _ (map plain_entry es) ps one its, x.agrees)) by
+    | inr one ↦ plain.exclusive (verdict_shown d.program) d.start d.final ps there (record { source = es; tells = one_at _ (map plain_entry es) ps one its; holds = x.agrees }) by
   ]
 
   same_place : (one two : ℕ) → JournalDiffers a d one → JournalDiffers a d two → one ≡ two
   same_place one two (in_full es here its by) (in_full ds there other differ) =
-      replays.one_place (verdict_shown d.program) d.start d.final es here there by (subst (λ (zs : List Entry). DiffersAt (verdict_shown d.program) d.start zs d.final there) (one_at _ ds es other its) differ)
+      full.one_place (verdict_shown d.program) d.start d.final es here there by (subst (λ (zs : List Entry). DiffersAt full_entry (verdict_shown d.program) d.start zs d.final there) (one_at _ ds es other its) differ)
   same_place one two (in_full es here its by) (in_plain ps there other differ) = absurd (not_in_both a es ps fit its other)
   same_place one two (in_plain ps here its by) (in_full es there other differ) = absurd (not_in_both a es ps fit other its)
   same_place one two (in_plain ps here its by) (in_plain qs there other differ) =
-      replays.plain_one_place (verdict_shown d.program) d.start d.final ps here there by (subst (λ (zs : List PlainEntry). PlainDiffersAt (verdict_shown d.program) d.start zs d.final there) (one_at _ qs ps other its) differ)
+      plain.one_place (verdict_shown d.program) d.start d.final ps here there by (subst (λ (zs : List PlainEntry). DiffersAt plain_entry (verdict_shown d.program) d.start zs d.final there) (one_at _ qs ps other its) differ)
 
 -- ---- ways back, rounds and elections
 
@@ -168,8 +170,8 @@ pub record OneOfEach : Type 0 where
   pub runs : RunTextIsOne
   pub claimed : TicketReachedIsReached
   pub interleaves : InterleaveTextIsOne
-  pub replays : ReplayIsDecided
-  pub is_run : PlainRunIsRun
+  pub full : ReplayIsDecided full_entry
+  pub plain : ReplayIsDecided plain_entry
   pub unique : PlainRunIsUnique
   pub measures : MeasureTextIsOne
   pub stays : GoodStaysConnected
@@ -204,13 +206,13 @@ module _ (laws : OneOfEach) where
   -- what is told of the journal
   module _ (bytes : List ℕ) (a : Contents) (c : DocumentCommand) (h : IsDocumentOf c bytes a) (d e : DocumentRecord a) where
     same_run : (es ds : List Entry) → JournalAgrees a d es → JournalAgrees a e ds → es ≡ ds
-    same_run es ds x y = same_entries laws.replays laws.is_run laws.unique a (fits bytes a c h) d es ds x (agrees_as a d e ds y)
+    same_run es ds x y = same_entries laws.full laws.plain laws.unique a (fits bytes a c h) d es ds x (agrees_as a d e ds y)
 
     no_run : (es : List Entry) (place : ℕ) → JournalAgrees a d es → JournalDiffers a e place → ⊥
-    no_run es place x y = not_agreeing laws.replays laws.is_run laws.unique a (fits bytes a c h) d es place x (differs_as a d e place y)
+    no_run es place x y = not_agreeing laws.full laws.plain laws.unique a (fits bytes a c h) d es place x (differs_as a d e place y)
 
     same_end : (one two : ℕ) → JournalDiffers a d one → JournalDiffers a e two → one ≡ two
-    same_end one two x y = same_place laws.replays laws.is_run laws.unique a (fits bytes a c h) d one two x (differs_as a d e two y)
+    same_end one two x y = same_place laws.full laws.plain laws.unique a (fits bytes a c h) d one two x (differs_as a d e two y)
 
   found : (p : Program) → OldValuesAreFound (verdict_shown p)
   found p b i change by = (laws.decide (verdict_shown p) (laws.acts p) b i change by).found

@@ -1,14 +1,10 @@
 -- What the commands answer is what they owe.
-use Rattle.std.proofs.Common.{◌≡◌, ◌<◌, ℕ, List, length, Option, Some, None, inr, ap, sym, subst, ◌∙◌}
+use Rattle.std.proofs.Common.{◌≡◌, ◌<◌, ℕ, List, length, Option, Some, None, sym, subst}
 use Rattle.std.specs.Prelude.{IsSome, IfSome}
 use Rattle.std.specs.List.{All}
-use Rattle.std.proofs.lemmas.List.{length-map}
 use Rattle.text_tokens.specs.declared.refusal.Refusal.{Refusal}
 use Rattle.amoebot_state.specs.declared.verdict.Entry.{Entry}
-use Rattle.amoebot_state.specs.declared.verdict.PlainEntry.{PlainEntry}
 use Rattle.amoebot_state.specs.Configs.{Config, bot_at}
-use Rattle.amoebot_state.specs.Steps.{plain_entry}
-use Rattle.serial_model.specs.Laws.{PlainRunIsRun}
 use Rattle.claim_core.specs.declared.report.Report.{Report}
 use Rattle.claim_core.specs.Turns.{CallerLists, HaveBots}
 use Rattle.action_tree.specs.Trees.{Program}
@@ -18,7 +14,7 @@ use Rattle.shape_files.specs.Fitting.{FitTogether}
 use Rattle.shipped_programs.specs.declared.shipped.Shipped.{Shipped}
 use Rattle.shipped_programs.specs.Shipped.{tree_of}
 use Rattle.command_runs.specs.Interleave.{IsInterleaveReport}
-use Rattle.command_runs.specs.Replay.{PlainAgrees, agrees_line, differs_line}
+use Rattle.command_runs.specs.Replay.{agrees_line, differs_line}
 use Rattle.command_runs.specs.Renew.{renewed_text}
 use Rattle.command_runs.specs.Check.{check_text}
 use Rattle.command_runs.specs.Measure.{IsMeasureText}
@@ -67,20 +63,8 @@ abbrev pub record_of : (a : Contents) (p : Program) (start final : Config) → a
 record_of a p start final its_program its_shape its_final = record { program = p; start = start; final = final; its_program = its_program; its_shape = its_shape; its_final = its_final }
 
 module _ (a : Contents) (d : DocumentRecord a) where
-  -- a plain journal that agrees has the entries of a run, without their old values
-  pub plain_agrees : PlainRunIsRun → (ps : List PlainEntry) → a.plain ≡ Some ps → PlainAgrees (verdict_shown d.program) d.start ps d.final
-      → (es : List Entry) × (length es ≡ length ps) × JournalAgrees a d es
-  plain_agrees law ps its_journal run =
-      let (es, same, by) = (law (verdict_shown d.program) d.start d.final ps).0 run in
-      (es, sym (length-map es plain_entry) ∙ ap (λ (qs : List PlainEntry). length qs) same, record { told = inr (its_journal ∙ ap Some (sym same)); agrees = by })
-
   pub agrees : (es : List Entry) → JournalAgrees a d es → IsAnswerTo Replay a (agrees_with (length es))
   agrees es is bytes h = served Replay bytes a status.Done None (agrees_line (length es)) h (agreeing d es is)
-
-  pub agrees_plainly : PlainRunIsRun → (ps : List PlainEntry) → a.plain ≡ Some ps → PlainAgrees (verdict_shown d.program) d.start ps d.final → IsAnswerTo Replay a (agrees_with (length ps))
-  agrees_plainly law ps its_journal run =
-      let (es, long, is) = plain_agrees law ps its_journal run in
-      subst (λ (count : ℕ). IsAnswerTo Replay a (agrees_with count)) long (agrees es is)
 
   pub differs_at : (place : ℕ) → JournalDiffers a d place → IsAnswerTo Replay a (differs_with place)
   differs_at place is bytes h = served Replay bytes a (status.Differs place) None (differs_line place) h (differing d place is)

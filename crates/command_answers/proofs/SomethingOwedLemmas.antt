@@ -6,12 +6,11 @@ use Rattle.std.specs.Option.{option_or}
 use Rattle.std.proofs.lemmas.Bool.{cases_Bool, cases_lt}
 use Rattle.text_tokens.specs.declared.refusal.Refusal.{Refusal}
 use Rattle.amoebot_state.specs.declared.verdict.Entry.{Entry}
-use Rattle.amoebot_state.specs.declared.verdict.PlainEntry.{PlainEntry}
 use Rattle.amoebot_state.specs.Configs.{Config, IsValid, bot_at}
 use Rattle.amoebot_state.specs.Limits.{most_bots}
-use Rattle.serial_model.specs.Laws.{PlainRunIsRun}
+use Rattle.serial_model.specs.Forms.{full_entry}
 use Rattle.node_text.specs.Parts.{has_old_values}
-use Rattle.amoebot_state.specs.Steps.{HasPatchedWorld, OldValuesAreFound}
+use Rattle.amoebot_state.specs.Steps.{HasPatchedWorld, OldValuesAreFound, plain_entry}
 use Rattle.amoebot_state.proofs.Options.{there_is}
 use Rattle.model_ops.specs.Laws.{ActsKeepDeciderLaws}
 use Rattle.claim_core.specs.Turns.{AreLists, CallerLists}
@@ -53,12 +52,13 @@ use Rattle.command_answers.specs.declared.status.Status.{Status}
 use Rattle.command_answers.specs.declared.status.Status.TheVariants as status
 use Rattle.command_answers.specs.Commands.{form_of, least_for, with_old_values, IsDocumentOf}
 use Rattle.command_answers.specs.Lines.{read_fault_line, refusal_line, too_long, usage_line, no_such_place, not_erosion, bad_start}
-use Rattle.command_answers.specs.Outcomes.{DocumentRecord, DocumentLists, JournalAgrees, JournalDiffers, in_full, in_plain, IsOutcome, last_shape, of_run, of_tickets, of_interleave, agreeing, differing, of_check, of_measure, renewing, renew_differing, no_place, unwound, not_unwound, rounded, not_rounded, no_erosion, not_ready, not_elected, elected}
+use Rattle.command_answers.specs.Outcomes.{DocumentRecord, DocumentLists, JournalAgrees, JournalDiffers, IsOutcome, last_shape, of_run, of_tickets, of_interleave, agreeing, differing, of_check, of_measure, renewing, renew_differing, no_place, unwound, not_unwound, rounded, not_rounded, no_erosion, not_ready, not_elected, elected}
 use Rattle.command_answers.specs.Owed.{usage, read_fault, longer, refused, served, shown, sampled}
 use Rattle.command_answers.specs.Reads.{nothing, whole}
 use Rattle.command_answers.specs.Laws.{OwedIsSome, SomethingOwed}
 use Rattle.command_answers.proofs.CommandDocuments.{of_form}
-use Rattle.command_answers.proofs.OwedTexts.{are_there, plain_agrees}
+use Rattle.command_answers.proofs.OwedTexts.{are_there}
+use Rattle.command_answers.proofs.RecordedLemmas.{IsJournalIn, in_full_form, in_plain_form}
 use Rattle.shipped_programs.specs.Shipped.{tree_of}
 
 -- what the laws of lower crates say
@@ -73,8 +73,8 @@ pub record Exists : Type 0 where
   pub tickets : TicketsLeaveAReport
   pub fine : TicketReachedIsGood
   pub serials : OneListIsSerial
-  pub replays : ReplayIsDecided
-  pub plain_runs : PlainRunIsRun
+  pub full : ReplayIsDecided full_entry
+  pub plain : ReplayIsDecided plain_entry
   pub measures : MeasuresAreDecided
   pub stays : GoodStaysConnected
   pub samples : SampleIsSome
@@ -157,22 +157,16 @@ module _ (laws : Exists) where
     leads : (p : Program) → HasPatchedWorld (verdict_shown p)
     leads p b i change by = (laws.decide (verdict_shown p) (laws.acts p) b i change by).leads
 
-    ends_in_full : (d : DocumentRecord a) (es : List Entry) → a.entries ≡ Some es → Ends d
-    ends_in_full d es its_journal = elim (laws.replays.some (verdict_shown d.program) d.start d.final es (leads d.program) (drawn d.start d.its_shape).valid) [
-      | inl run ↦ inl (es, record { told = inl its_journal; agrees = run })
-      | inr by ↦ inr (by.0, in_full es by.0 its_journal by.1)
-    ]
-
-    ends_in_plain : (d : DocumentRecord a) (ps : List PlainEntry) → a.plain ≡ Some ps → Ends d
-    ends_in_plain d ps its_journal = elim (laws.replays.plain_some (verdict_shown d.program) d.start d.final ps (leads d.program) (drawn d.start d.its_shape).valid) [
-      | inl run ↦ let (es, long, is) = plain_agrees a d laws.plain_runs ps its_journal run in inl (es, is)
-      | inr by ↦ inr (by.0, in_plain ps by.0 its_journal by.1)
+    ends_in : {E : Type 0} {form : Entry → E} (d : DocumentRecord a) (told : List E) → IsJournalIn form a d told → ReplayIsDecided form → Ends d
+    ends_in d told is decided = elim (decided.some (verdict_shown d.program) d.start d.final told (leads d.program) (drawn d.start d.its_shape).valid) [
+      | inl by ↦ inl (by.source, record { told = is.tells by.source by.tells; agrees = by.holds })
+      | inr by ↦ inr (by.0, is.differs by.0 by.1)
     ]
 
     ends : (d : DocumentRecord a) → HasJournal a → Ends d
     ends d has = elim (cases_Bool (has_old_values a.version)) [
-      | inl is ↦ let es = there_is a.entries (subst (λ (b : Bool). HasJournalBy b a) is has) in ends_in_full d es.0 es.1
-      | inr without ↦ let ps = there_is a.plain (subst (λ (b : Bool). HasJournalBy b a) without has) in ends_in_plain d ps.0 ps.1
+      | inl is ↦ let es = there_is a.entries (subst (λ (b : Bool). HasJournalBy b a) is has) in ends_in d es.0 (in_full_form a d es.0 es.1) laws.full
+      | inr without ↦ let ps = there_is a.plain (subst (λ (b : Bool). HasJournalBy b a) without has) in ends_in d ps.0 (in_plain_form a d ps.0 ps.1) laws.plain
     ]
 
     record_of : HasSections form.Replay a → DocumentRecord a

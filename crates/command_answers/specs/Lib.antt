@@ -1,6 +1,5 @@
 pub mod Answers
 pub mod Commands
-pub mod Counts
 pub mod Told
 pub mod Headline
 pub mod Laws

@@ -8,6 +8,7 @@ use Rattle.amoebot_state.specs.declared.verdict.Entry.{Entry}
 use Rattle.amoebot_state.specs.declared.verdict.PlainEntry.{PlainEntry}
 use Rattle.amoebot_state.specs.Configs.{Config}
 use Rattle.amoebot_state.specs.Steps.{plain_entry}
+use Rattle.serial_model.specs.Forms.{full_entry}
 use Rattle.claim_core.specs.declared.report.Report.{Report}
 use Rattle.claim_core.specs.Turns.{CallerLists}
 use Rattle.claim_core.specs.Machine.{setup}
@@ -27,7 +28,7 @@ use Rattle.command_runs.specs.Check.{check_text}
 use Rattle.command_runs.specs.Elect.{election_text}
 use Rattle.command_runs.specs.Interleave.{IsScheduled}
 use Rattle.command_runs.specs.Measure.{IsMeasureText}
-use Rattle.command_runs.specs.Replay.{Agrees, DiffersAt, PlainDiffersAt, agrees_line, differs_line}
+use Rattle.command_runs.specs.Replay.{Agrees, DiffersAt, agrees_line, differs_line}
 use Rattle.command_runs.specs.Renew.{renewed_text}
 use Rattle.command_runs.specs.Reports.{report_text}
 use Rattle.command_runs.specs.Rounds.{rounds_text}
@@ -68,11 +69,11 @@ pub record JournalAgrees (a : Contents) (d : DocumentRecord a) (es : List Entry)
 pub data JournalDiffers (a : Contents) (d : DocumentRecord a) : ℕ → Type 0 where
   in_full : (es : List Entry) (place : ℕ)
       → a.entries ≡ Some es
-      → DiffersAt (verdict_shown d.program) d.start es d.final place
+      → DiffersAt full_entry (verdict_shown d.program) d.start es d.final place
       → JournalDiffers a d place
   in_plain : (ps : List PlainEntry) (place : ℕ)
       → a.plain ≡ Some ps
-      → PlainDiffersAt (verdict_shown d.program) d.start ps d.final place
+      → DiffersAt plain_entry (verdict_shown d.program) d.start ps d.final place
       → JournalDiffers a d place
 
 -- the last shape of a document: the one at the end, if it has that, else the one at the start

@@ -1,54 +1,58 @@
 -- What an answer tells of a journal.
-use Rattle.std.specs.Prelude.{◌≡◌, ℕ, List, length, map}
+use Rattle.std.specs.Prelude.{◌≡◌, ◌<◌, ℕ, List, length, map}
+use Rattle.std.specs.List.{All}
 use Rattle.std.specs.declared.option.Option.{Option}
 use Rattle.std.specs.declared.option.Option.TheVariants.{Some, None}
 use Rattle.std.specs.declared.result.Result.TheVariants.{Ok, Err}
 use Rattle.amoebot_state.specs.declared.verdict.Entry.{Entry}
 use Rattle.amoebot_state.specs.declared.verdict.PlainEntry.{PlainEntry}
 use Rattle.amoebot_state.specs.Configs.{Config}
-use Rattle.amoebot_state.specs.Steps.{plain_entry}
+use Rattle.serial_model.specs.Replays.{AreCountable}
 use Rattle.rewind_log.specs.Unwinding.{IsUnwound}
-use Rattle.shape_checks.specs.Values.{value_count}
+use Rattle.round_meter.specs.Rounds.{IsRounded}
 use Rattle.action_tree.specs.Trees.{Program}
 use Rattle.action_meaning.specs.Verdicts.{verdict_shown}
-use Rattle.election_law.specs.Elections.{cand_var, leader_of}
-use Rattle.command_runs.specs.Replay.{Agrees, DiffersAt, PlainAgrees, PlainDiffersAt}
+use Rattle.shape_files.specs.Documents.{Contents}
+use Rattle.command_runs.specs.Replay.{Agrees, DiffersAt}
 use Rattle.command_answers.specs.declared.answer.Answer.{Answer}
-use Rattle.command_answers.specs.Answers.{agrees_with, differs_with, elected_with, unwound_with}
+use Rattle.command_answers.specs.declared.recorded.Journal.{Journal}
+use Rattle.command_answers.specs.declared.recorded.Journal.TheVariants as journal
+use Rattle.command_answers.specs.Answers.{differs_with, rounded_with, unwound_with}
 
--- its entries are a run from one shape to another, of which more is told; or they differ from one
-pub data TellsRun (p : Program) (start : Config) (es : List Entry) (final : Config) (Done : Answer → Type 0)
-    (answer : Answer) : Type 0 where
-  of_agreeing : Agrees (verdict_shown p) start es final
-      → Done answer
-      → TellsRun p start es final Done answer
-  of_differing : (place : ℕ)
-      → DiffersAt (verdict_shown p) start es final place
-      → answer ≡ differs_with place
-      → TellsRun p start es final Done answer
+-- the journal of a document, in the one of the two forms that it has
+abbrev pub HasItsJournal : Contents → Journal → Type 0
+HasItsJournal a (journal.Full es) = a.entries ≡ Some es
+HasItsJournal a (journal.Plain ps) = a.plain ≡ Some ps
 
--- the same of a journal without old values, by the entries of the run that it tells
-pub data TellsPlainRun (p : Program) (start : Config) (ps : List PlainEntry) (final : Config) (Done : List Entry → Answer → Type 0)
-    (answer : Answer) : Type 0 where
-  of_following : (es : List Entry)
-      → map plain_entry es ≡ ps
+-- its entries with their old values, if it has them
+abbrev pub full_of : Journal → Option (List Entry)
+full_of (journal.Full es) = Some es
+full_of (journal.Plain ps) = None
+
+-- its entries are few, and each is of one of so many amoebots
+abbrev pub IsOfBots : ℕ → Journal → Type 0
+IsOfBots bots (journal.Full es) = All (λ (e : Entry). e.bot < bots) es × AreCountable es
+IsOfBots bots (journal.Plain ps) = All (λ (p : PlainEntry). p.bot < bots) ps × AreCountable ps
+
+-- Entries that are told in a form are those of a run from one shape to another, of which more is told. Or they differ from one.
+pub data TellsRun {E : Type 0} (form : Entry → E) (p : Program) (start : Config) (told : List E) (final : Config)
+    (Done : List Entry → Answer → Type 0) (answer : Answer) : Type 0 where
+  of_agreeing : (es : List Entry)
+      → map form es ≡ told
       → Agrees (verdict_shown p) start es final
       → Done es answer
-      → TellsPlainRun p start ps final Done answer
-  of_straying : (place : ℕ)
-      → PlainDiffersAt (verdict_shown p) start ps final place
+      → TellsRun form p start told final Done answer
+  of_differing : (place : ℕ)
+      → DiffersAt form (verdict_shown p) start told final place
       → answer ≡ differs_with place
-      → TellsPlainRun p start ps final Done answer
+      → TellsRun form p start told final Done answer
 
--- that such a journal is one of a run, with the number of its entries; or where it differs
-pub data TellsPlainEnd (p : Program) (start : Config) (ps : List PlainEntry) (final : Config) (answer : Answer) : Type 0 where
-  of_plain_agreeing : PlainAgrees (verdict_shown p) start ps final
-      → answer ≡ agrees_with (length ps)
-      → TellsPlainEnd p start ps final answer
-  of_plain_differing : (place : ℕ)
-      → PlainDiffersAt (verdict_shown p) start ps final place
-      → answer ≡ differs_with place
-      → TellsPlainEnd p start ps final answer
+-- how many rounds of a run have ended, and how many amoebots wait
+pub record TellsRounds (p : Program) (start : Config) (es : List Entry) (answer : Answer) : Type 0 where
+  pub rounds : ℕ
+  pub waiting : ℕ
+  pub counted : IsRounded (verdict_shown p) start es rounds waiting
+  pub text : answer ≡ rounded_with rounds waiting
 
 -- the shape at a place, or where the way back to it ends
 pub data TellsBack (p : Program) (start final : Config) (es : List Entry) (place : ℕ) (answer : Answer) : Type 0 where
@@ -60,18 +64,3 @@ pub data TellsBack (p : Program) (start final : Config) (es : List Entry) (place
       → IsUnwound (verdict_shown p) start final es place (Err k)
       → answer ≡ differs_with k
       → TellsBack p start final es place answer
-
--- the candidates and the leader at the end
-abbrev pub TellsElection : Program → Config → Config → List Entry → Answer → Type 0
-TellsElection p start final es =
-    TellsRun p start es final (λ answer. answer ≡ elected_with (value_count final cand_var 1) (leader_of final))
-
-abbrev pub TellsPlainElection : Program → Config → Config → List PlainEntry → Answer → Type 0
-TellsPlainElection p start final ps = TellsPlainRun p start ps final (TellsElection p start final)
-
--- what is told of a journal by its entries with old values, where it has them, and else by those without
-abbrev pub TellsJournal : (List Entry → Answer → Type 0) → (List PlainEntry → Answer → Type 0)
-    → Option (List Entry) → Option (List PlainEntry) → Answer → Type 0
-TellsJournal Full Plain (Some es) plain answer = Full es answer
-TellsJournal Full Plain None (Some ps) answer = Plain ps answer
-TellsJournal Full Plain None None answer = ⊥

@@ -7,6 +7,7 @@ ghost use Rattle.command_answers.specs.ExplainExamples.{SmallExplanations};
 ghost use Rattle.command_answers.specs.ElectExamples.{SmallElections};
 
 use action_meaning::changes_are_acts;
+use amoebot_state::{Entry, PlainEntry};
 use claim_core::{
     one_list_is_serial, reached_is_good, rounds_leave_a_report, ticket_reached_is_good,
     ticket_reached_is_reached, tickets_leave_a_report,
@@ -20,7 +21,7 @@ use model_ops::acts_decide;
 use rewind_log::{unwound_is_some, unwound_is_unique};
 use round_meter::{each_run_is_rounded, rounds_are_unique};
 use run_sample::{sample_is_fit, sample_is_some, sample_is_unique};
-use serial_model::{plain_run_is_run, plain_run_is_unique};
+use serial_model::plain_run_is_unique;
 use shape_checks::measures_are_decided;
 use shape_files::{documents_are_sound, documents_fit, least_versions_are_kept};
 
@@ -34,8 +35,8 @@ pub fn owed_is_one()
     run_text_is_one();
     ticket_reached_is_reached();
     interleave_text_is_one();
-    replay_is_decided();
-    plain_run_is_run();
+    replay_is_decided::<Entry>();
+    replay_is_decided::<PlainEntry>();
     plain_run_is_unique();
     documents_fit();
     measure_text_is_one();
@@ -59,8 +60,8 @@ pub fn owed_is_some()
     tickets_leave_a_report();
     ticket_reached_is_good();
     one_list_is_serial();
-    replay_is_decided();
-    plain_run_is_run();
+    replay_is_decided::<Entry>();
+    replay_is_decided::<PlainEntry>();
     measures_are_decided();
     good_stays_connected();
     sample_is_fit();

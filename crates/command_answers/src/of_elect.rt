@@ -1,6 +1,6 @@
 //! The command `elect`: the candidates and the leader at the end of an election.
 
-ghost use Rattle.std.specs.Prelude.{◌≡◌, ◌≢◌, ◌<◌, None, length, IfOk, IfErr, IfSome, IsSome, MatchResult, OnOk};
+ghost use Rattle.std.specs.Prelude.{◌≡◌, ◌≢◌, ◌<◌, length, IfOk, IfErr, IfSome, MatchResult, OnOk};
 ghost use Rattle.std.specs.List.{All};
 ghost use Rattle.serial_model.specs.Replays.{AreCountable};
 ghost use Rattle.shape_checks.specs.Values.{value_count};
@@ -8,20 +8,19 @@ ghost use Rattle.action_meaning.specs.Verdicts.{verdict_shown};
 ghost use Rattle.election_law.specs.Elections.{cand_var, leader_of};
 ghost use Rattle.shape_files.specs.Fitting.{Fits};
 ghost use Rattle.shape_files.specs.Views.{contents};
-ghost use Rattle.command_runs.specs.Replay.{Agrees, DiffersAt};
+ghost use Rattle.command_runs.specs.Replay.{AgreesIn, DiffersAt};
 ghost use Rattle.command_answers.specs.Answers.{IsAnswerTo, differs_with, elected_with, refused_with};
 ghost use Rattle.command_answers.specs.Commands.{form_of};
 ghost use Rattle.command_answers.specs.Lines.{bad_start};
-ghost use Rattle.command_answers.specs.Told.{TellsElection, TellsJournal, TellsPlainElection};
+ghost use Rattle.command_answers.specs.Told.{TellsRun};
 
 use crate::answer::{Answer, differ, done, refuse};
-use crate::recorded::{Recorded, follow, recorded_in};
-use amoebot_state::{Entry, NoMemory, World};
-use command_runs::{print_election, replay_is_decided};
+use crate::recorded::{Journal, Recorded, recorded_in};
+use amoebot_state::{NoMemory, World};
+use command_runs::print_election;
 use command_words::DocumentCommand;
 use election_law::{ElectRefusal, Election, is_erosion, start_laws};
-use journal_text::{Entries, PlainEntries};
-use serial_model::Differs;
+use serial_model::{Differs, EntryForm};
 use shape_files::Parts;
 use std::alloc::Global;
 use text_tokens::{Refusal, RefusalKind};
@@ -32,78 +31,39 @@ pub(crate) fn answer_elect(alloc: Global, parts: Parts) -> Result<Answer, NoMemo
     ensures { IfOk result (IsAnswerTo DocumentCommand.Elect (contents parts)) }
 {
     start_laws();
-    replay_is_decided();
     let Recorded {
         runner,
         start,
         last,
-        entries,
-        plain,
+        journal,
     } = recorded_in(parts);
     if !is_erosion(runner.checked().program()) {
         return refuse(alloc, whole_document(RefusalKind::NotErosion));
     }
     match Election::open(alloc, runner, start) {
-        Ok(election) => elect(alloc, election, entries, plain, &last),
+        Ok(election) => match journal {
+            Journal::Full(full) => elect(alloc, election, full.entries(), &last),
+            Journal::Plain(plain) => elect(alloc, election, plain.entries(), &last),
+        },
         Err(refusal) => refuse_start(alloc, refusal),
     }
 }
 
-/// The answer to the journal of an election that begins, whose amoebots are those of its world.
-fn elect(
-    alloc: Global,
-    election: Election,
-    entries: Option<Entries>,
-    plain: Option<PlainEntries>,
-    last: &World,
-) -> Result<Answer, NoMemory>
-    requires full { IfSome entries (λ es. All (λ e. e.bot < length election.world.bots) es × AreCountable es) }
-    requires told { IfSome plain (λ ps. All (λ p. p.bot < length election.world.bots) ps × AreCountable ps) }
-    requires one { entries ≡ None → IsSome plain }
-    requires begun { election.steps ≡ 0 }
-    ensures { IfOk result (TellsJournal
-        (TellsElection election.program election.world last.now)
-        (TellsPlainElection election.program election.world last.now) entries plain) }
-{
-    match entries {
-        Some(journal) => elect_full(alloc, election, journal.entries(), last),
-        None => elect_plain(alloc, election, plain.unwrap(), last),
-    }
-}
-
-/// The answer to entries with their old values.
-fn elect_full(
+/// The answer to entries in a form, of an election that begins, whose amoebots are those of its world.
+fn elect<E: EntryForm>(
     alloc: Global,
     mut election: Election,
-    entries: &[Entry],
+    entries: &[E],
     last: &World,
 ) -> Result<Answer, NoMemory>
-    requires there { All (λ e. e.bot < length election.world.bots) entries.now }
+    requires there { All (λ e. E.bot e < length election.world.bots) entries.now }
     requires few { AreCountable entries.now }
     requires begun { election.steps ≡ 0 }
-    ensures { IfOk result (TellsElection election.program election.world last.now entries.now) }
+    ensures { IfOk result (TellsRun E.form election.program election.world entries.now last.now
+        (λ es a. a ≡ elected_with (value_count last.now cand_var 1) (leader_of last.now))) }
 {
     let made = make_steps(&mut election, entries, last);
     tell_election(alloc, &election, made)
-}
-
-/// The answer to a journal without old values.
-fn elect_plain(
-    alloc: Global,
-    election: Election,
-    journal: PlainEntries,
-    last: &World,
-) -> Result<Answer, NoMemory>
-    requires there { All (λ p. p.bot < length election.world.bots) journal }
-    requires few { AreCountable journal }
-    requires begun { election.steps ≡ 0 }
-    ensures { IfOk result (TellsPlainElection election.program election.world last.now journal) }
-{
-    let followed = follow(alloc, election.runner(), election.world(), journal, last)?;
-    match followed {
-        Ok(entries) => elect_full(alloc, election, entries.as_slice(), last),
-        Err(differs) => differ(alloc, differs.place),
-    }
 }
 
 /// The refusal of a document as a whole, which names no line.
@@ -156,18 +116,22 @@ fn tell_election(
     }
 }
 
-/// Makes the entries' steps, which lead to the last world. Otherwise it returns the first place that is no step; or the number of
-/// entries, where they lead to another world.
-fn make_steps(election: &mut Election, entries: &[Entry], last: &World) -> Result<(), Differs>
-    requires there { All (λ e. e.bot < length election.old.world.bots) entries.now }
+/// Makes the steps of entries in a form, which lead to the last world. Otherwise it returns the first place that is no step; or the
+/// number of entries, where they lead to another world.
+fn make_steps<E: EntryForm>(
+    election: &mut Election,
+    entries: &[E],
+    last: &World,
+) -> Result<(), Differs>
+    requires there { All (λ e. E.bot e < length election.old.world.bots) entries.now }
     requires few { AreCountable entries.now }
     requires begun { election.old.steps ≡ 0 }
-    ensures agrees { OnOk result (Agrees (verdict_shown election.old.program) election.old.world entries.now last.now) }
+    ensures agrees { OnOk result (AgreesIn E.form (verdict_shown election.old.program) election.old.world entries.now last.now) }
     ensures reached { OnOk result (election.new.world ≡ last.now) }
-    ensures differs { IfErr result (λ e. DiffersAt (verdict_shown election.old.program) election.old.world entries.now last.now e.place) }
+    ensures differs { IfErr result (λ e. DiffersAt E.form (verdict_shown election.old.program) election.old.world entries.now last.now e.place) }
 {
-    for entry in entries {
-        election.step(entry)?;
+    for told in entries {
+        election.step_in(told)?;
     }
     if election.world().same(last) {
         Ok(())

@@ -7,15 +7,15 @@ ghost use Rattle.shape_files.specs.Fitting.{Fits};
 ghost use Rattle.shape_files.specs.Views.{contents};
 ghost use Rattle.command_answers.specs.Answers.{IsAnswerTo, renewed_with};
 ghost use Rattle.command_answers.specs.Commands.{form_of};
-ghost use Rattle.command_answers.specs.Told.{TellsRun, TellsPlainRun};
+ghost use Rattle.command_answers.specs.Told.{TellsRun};
 
 use crate::answer::{Answer, differ, done};
-use crate::recorded::{Recorded, follow, recorded_in};
+use crate::recorded::{Journal, Recorded, recorded_in};
 use action_eval::Runner;
 use amoebot_state::{Entry, NoMemory, World};
-use command_runs::{compare, print_renewed};
+use command_runs::{follow_all, print_renewed};
 use command_words::DocumentCommand;
-use journal_text::PlainEntries;
+use serial_model::EntryForm;
 use shape_files::Parts;
 use std::alloc::Global;
 
@@ -28,51 +28,30 @@ pub(crate) fn answer_renew(alloc: Global, parts: Parts) -> Result<Answer, NoMemo
         runner,
         start,
         last,
-        entries,
-        plain,
+        journal,
     } = recorded_in(parts);
-    match entries {
-        Some(journal) => renew_full(alloc, &runner, &start, journal.entries(), &last),
-        None => renew_plain(alloc, &runner, &start, plain.unwrap(), &last),
+    match journal {
+        Journal::Full(full) => tell_renewed(alloc, &runner, &start, full.entries(), &last),
+        Journal::Plain(plain) => tell_renewed(alloc, &runner, &start, plain.entries(), &last),
     }
 }
 
-/// The answer to entries with their old values, whose amoebots are the start's.
-fn renew_full(
+/// The answer to entries in a form, whose amoebots are the start's.
+fn tell_renewed<E: EntryForm>(
     alloc: Global,
     runner: &Runner,
     start: &World,
-    entries: &[Entry],
+    entries: &[E],
     last: &World,
 ) -> Result<Answer, NoMemory>
-    requires there { All (λ e. e.bot < length start.now.bots) entries.now }
+    requires there { All (λ e. E.bot e < length start.now.bots) entries.now }
     requires few { AreCountable entries.now }
-    ensures { IfOk result (TellsRun runner.now start.now entries.now last.now
-        (λ a. a ≡ renewed_with runner.now start.now entries.now last.now)) }
-{
-    let taken = start.copy(alloc)?;
-    match compare(runner, taken, entries, last) {
-        Ok(()) => renew(alloc, runner, start, entries, last),
-        Err(differs) => differ(alloc, differs.place),
-    }
-}
-
-/// The answer to a journal without old values, whose amoebots are the start's.
-fn renew_plain(
-    alloc: Global,
-    runner: &Runner,
-    start: &World,
-    journal: PlainEntries,
-    last: &World,
-) -> Result<Answer, NoMemory>
-    requires there { All (λ p. p.bot < length start.now.bots) journal }
-    requires few { AreCountable journal }
-    ensures { IfOk result (TellsPlainRun runner.now start.now journal last.now
+    ensures { IfOk result (TellsRun E.form runner.now start.now entries.now last.now
         (λ es a. a ≡ renewed_with runner.now start.now es last.now)) }
 {
-    let followed = follow(alloc, runner, start, journal, last)?;
-    match followed {
-        Ok(entries) => renew(alloc, runner, start, entries.as_slice(), last),
+    let taken = start.copy(alloc)?;
+    match follow_all(alloc, runner, taken, entries, last)? {
+        Ok(followed) => renew(alloc, runner, start, followed.as_slice(), last),
         Err(differs) => differ(alloc, differs.place),
     }
 }

@@ -32,11 +32,10 @@ pub(crate) fn answer_rewind(alloc: Global, place: u32, parts: Parts) -> Result<A
         runner,
         start,
         last,
-        entries,
-        ..
+        journal,
     } = recorded_in(parts);
-    let journal = entries.unwrap();
-    let entries = journal.entries();
+    let full = journal.full().unwrap();
+    let entries = full.entries();
     if (place as usize) > entries.len() {
         return refuse(alloc, bad_place());
     }

@@ -7,16 +7,15 @@ ghost use Rattle.shape_files.specs.Fitting.{Fits};
 ghost use Rattle.shape_files.specs.Views.{contents};
 ghost use Rattle.command_answers.specs.Answers.{IsAnswerTo};
 ghost use Rattle.command_answers.specs.Commands.{form_of};
-ghost use Rattle.command_answers.specs.Counts.{TellsCount};
-ghost use Rattle.command_answers.specs.Told.{TellsPlainRun};
+ghost use Rattle.command_answers.specs.Told.{TellsRounds, TellsRun};
 
 use crate::answer::{Answer, differ, done};
-use crate::recorded::{Recorded, recorded_in};
+use crate::recorded::{Journal, Recorded, recorded_in};
 use action_eval::Runner;
-use amoebot_state::{Entry, NoMemory, World};
-use command_runs::{count_plain_rounds, count_rounds, print_rounds, replay_is_decided};
+use amoebot_state::{NoMemory, World};
+use command_runs::{count_rounds, print_rounds};
 use command_words::DocumentCommand;
-use journal_text::PlainEntries;
+use serial_model::EntryForm;
 use shape_files::Parts;
 use std::alloc::Global;
 
@@ -25,52 +24,29 @@ pub(crate) fn answer_rounds(alloc: Global, parts: Parts) -> Result<Answer, NoMem
     requires { Fits (form_of DocumentCommand.Rounds) (contents parts) }
     ensures { IfOk result (IsAnswerTo DocumentCommand.Rounds (contents parts)) }
 {
-    replay_is_decided();
     let Recorded {
         runner,
         start,
         last,
-        entries,
-        plain,
+        journal,
     } = recorded_in(parts);
-    match entries {
-        Some(journal) => tell_count(alloc, &runner, start, journal.entries(), &last),
-        None => count_plain(alloc, &runner, start, plain.unwrap(), &last),
+    match journal {
+        Journal::Full(full) => tell_count(alloc, &runner, start, full.entries(), &last),
+        Journal::Plain(plain) => tell_count(alloc, &runner, start, plain.entries(), &last),
     }
 }
 
-/// The answer to a journal without old values, whose amoebots are the start's.
-fn count_plain(
+/// The answer to entries in a form, whose amoebots are the start's.
+fn tell_count<E: EntryForm>(
     alloc: Global,
     runner: &Runner,
     start: World,
-    journal: PlainEntries,
+    entries: &[E],
     last: &World,
 ) -> Result<Answer, NoMemory>
-    requires there { All (λ p. p.bot < length start.bots) journal }
-    requires few { AreCountable journal }
-    ensures { IfOk result (TellsPlainRun runner.now start journal last.now (λ es. TellsCount runner.now start es last.now)) }
-{
-    match count_plain_rounds(alloc, runner, start, journal.entries(), last)? {
-        Ok(count) => {
-            let text = print_rounds(alloc, count.rounds, count.waiting)?;
-            Ok(done(text))
-        }
-        Err(differs) => differ(alloc, differs.place),
-    }
-}
-
-/// The answer that the entries, whose amoebots are the start's, are a run to the last world in so many rounds, or that they differ.
-fn tell_count(
-    alloc: Global,
-    runner: &Runner,
-    start: World,
-    entries: &[Entry],
-    last: &World,
-) -> Result<Answer, NoMemory>
-    requires there { All (λ e. e.bot < length start.bots) entries.now }
+    requires there { All (λ e. E.bot e < length start.bots) entries.now }
     requires few { AreCountable entries.now }
-    ensures { IfOk result (TellsCount runner.now start entries.now last.now) }
+    ensures { IfOk result (TellsRun E.form runner.now start entries.now last.now (TellsRounds runner.now start)) }
 {
     match count_rounds(alloc, runner, start, entries, last)? {
         Ok(count) => {

@@ -1,32 +1,45 @@
 //! What a document has of a run that it records, as the commands that look at its journal take it.
 
-ghost use Rattle.std.specs.Prelude.{◌≡◌, ◌<◌, None, length, map, IfOk, IfSome, IsSome, MatchResult};
-ghost use Rattle.std.specs.List.{All};
-ghost use Rattle.amoebot_state.specs.Steps.{plain_entry};
-ghost use Rattle.serial_model.specs.Replays.{AreCountable};
-ghost use Rattle.action_meaning.specs.Verdicts.{verdict_shown};
+ghost use Rattle.std.specs.Prelude.{◌≡◌, length};
 ghost use Rattle.shape_files.specs.Fitting.{Fits};
 ghost use Rattle.shape_files.specs.Views.{contents};
-ghost use Rattle.command_runs.specs.Replay.{Agrees, PlainDiffersAt};
 ghost use Rattle.command_answers.specs.Commands.{form_of};
+ghost use Rattle.command_answers.specs.Told.{HasItsJournal, IsOfBots, full_of};
 
 use action_eval::Runner;
-use amoebot_state::{Entry, NoMemory, World};
-use command_runs::follow_all;
+use amoebot_state::World;
 use command_words::DocumentCommand;
 use journal_text::{Entries, PlainEntries};
-use serial_model::Differs;
 use shape_files::Parts;
-use std::alloc::Global;
 
-/// The program, the shape at the start, the final shape, and the journal: with old values, or else without.
+/// The journal of a document.
+#[derive(Drop)]
+pub(crate) enum Journal {
+    /// With the old values of each patch.
+    Full(Entries),
+    /// Without them.
+    Plain(PlainEntries),
+}
+
+impl Journal {
+    /// The entries with their old values, if it has them.
+    pub(crate) fn full(self) -> Option<Entries>
+        ensures { result ≡ full_of self }
+    {
+        match self {
+            Journal::Full(full) => Some(full),
+            Journal::Plain(_) => None,
+        }
+    }
+}
+
+/// The program, the shape at the start, the final shape, and the journal.
 #[derive(Drop)]
 pub(crate) struct Recorded {
     pub runner: Runner,
     pub start: World,
     pub last: World,
-    pub entries: Option<Entries>,
-    pub plain: Option<PlainEntries>,
+    pub journal: Journal,
 }
 
 /// What a document has that a command with a journal looks at. The amoebots of the entries are the start's.
@@ -35,11 +48,9 @@ pub(crate) fn recorded_in(parts: Parts) -> Recorded
     ensures program { (contents parts).checked ≡ Some result.runner }
     ensures start { (contents parts).world ≡ Some result.start }
     ensures last { (contents parts).final_world ≡ Some result.last }
-    ensures entries { (contents parts).entries ≡ result.entries }
-    ensures plain { (contents parts).plain ≡ result.plain }
-    ensures full { IfSome result.entries (λ es. All (λ e. e.bot < length result.start.bots) es × AreCountable es) }
-    ensures told { IfSome result.plain (λ ps. All (λ p. p.bot < length result.start.bots) ps × AreCountable ps) }
-    ensures one { result.entries ≡ None → IsSome result.plain }
+    ensures entries { (contents parts).entries ≡ full_of result.journal }
+    ensures journal { HasItsJournal (contents parts) result.journal }
+    ensures bots { IsOfBots (length result.start.bots) result.journal }
 {
     let Parts {
         checked,
@@ -52,29 +63,14 @@ pub(crate) fn recorded_in(parts: Parts) -> Recorded
     let runner = Runner::new(checked.unwrap());
     let start = world.unwrap();
     let last = final_world.unwrap();
+    let journal = match entries {
+        Some(full) => Journal::Full(full),
+        None => Journal::Plain(plain.unwrap()),
+    };
     Recorded {
         runner,
         start,
         last,
-        entries,
-        plain,
+        journal,
     }
-}
-
-/// The entries of the run that a journal without old values tells, or the place where it differs. The journal is dropped then.
-pub(crate) fn follow(
-    alloc: Global,
-    runner: &Runner,
-    start: &World,
-    journal: PlainEntries,
-    last: &World,
-) -> Result<Result<Vec<Entry>, Differs>, NoMemory>
-    requires there { All (λ p. p.bot < length start.now.bots) journal }
-    requires few { AreCountable journal }
-    ensures { IfOk result (λ followed. MatchResult followed
-        (λ es. (map plain_entry es.items ≡ journal) × Agrees (verdict_shown runner.now) start.now es.items last.now)
-        (λ e. PlainDiffersAt (verdict_shown runner.now) start.now journal last.now e.place)) }
-{
-    let taken = start.copy(alloc)?;
-    follow_all(alloc, runner, taken, journal.entries(), last)
 }

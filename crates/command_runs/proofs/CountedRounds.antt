@@ -1,5 +1,5 @@
 -- The rounds of a small journal: the first amoebot rests, since the second one stands before it, and the second one acts.
-use Rattle.std.proofs.Common.{◌≡◌, ◌<◌, ℕ, zero, suc, List, [], ◌∷◌, true, false, length, refl, arith}
+use Rattle.std.proofs.Common.{◌<◌, ℕ, zero, suc, List, [], ◌∷◌, true, false, refl, arith}
 use Rattle.std.specs.Prelude.{slice_index_or, Bool, Decides, IsSome}
 use Rattle.amoebot_state.specs.declared.verdict.Entry.{Entry}
 use Rattle.amoebot_state.specs.Configs.{bot_at}
@@ -7,10 +7,10 @@ use Rattle.amoebot_state.specs.Steps.{Run, Step, plain_entry}
 use Rattle.amoebot_state.proofs.Members.{Has, here, later}
 use Rattle.claim_core.specs.Good.{IsWorldAt}
 use Rattle.round_meter.specs.Rounds.{IsSettled, AllSettled, EndsRound, rested, acted, no_round, one_more}
-use Rattle.round_meter.specs.Meters.{GoesOnBy}
+use Rattle.round_meter.specs.Meters.{GoesOnIn}
 use Rattle.round_meter.proofs.MeterLemmas.{first_is_metered, metered_next}
 use Rattle.small_worlds.proofs.Rows.{valid}
-use Rattle.command_runs.specs.Rounds.{AgreesInRounds, PlainAgreesInRounds}
+use Rattle.command_runs.specs.Rounds.{AgreesInRounds, CountedIn}
 use Rattle.command_runs.specs.Examples.{start, second_spread, decides, second_expansion, meter_at_start, meter_behind}
 
 abbrev entries : List Entry
@@ -58,15 +58,15 @@ module _ (run : Run decides start entries second_spread) where
   }
 
 -- the same entries without their old values
-pub plain_round : Run decides start entries second_spread → PlainAgreesInRounds decides start (plain_entry second_expansion ∷ []) second_spread 1 0
-plain_round run = record { entries = entries; told = refl; counted = one_round run }
+pub plain_round : Run decides start entries second_spread → CountedIn plain_entry decides start (plain_entry second_expansion ∷ []) second_spread 1 0
+plain_round run = record { source = entries; tells = refl; holds = one_round run }
 
 -- A meter at the start goes on by this entry. Each of the two amoebots is asked again.
-pub goes_on : Step decides start second_expansion second_spread → GoesOnBy decides (plain_entry second_expansion) meter_at_start meter_behind
+pub goes_on : Step decides start second_expansion second_spread → GoesOnIn plain_entry decides (plain_entry second_expansion) meter_at_start meter_behind
 goes_on step = record {
-  entry = second_expansion;
-  plain = refl;
-  on = record {
+  source = second_expansion;
+  tells = refl;
+  holds = record {
     stands = (start, [], first_is_metered decides start valid no_gaps);
     step = step;
     metered = λ first es is. metered_next decides first es meter_at_start is second_expansion second_spread step (0 ∷ 1 ∷ []) (λ b lt lacks. absurd (lacks (either b (omega (arith, lt, is.size)))));

@@ -7,13 +7,15 @@ use Rattle.std.proofs.lemmas.List.Elements.{All-nil, All-cons}
 use Rattle.amoebot_state.specs.Configs.{Config, occupant}
 use Rattle.amoebot_state.specs.declared.cell.CellName.TheVariants as name
 use Rattle.amoebot_state.specs.declared.cell.Cell.TheVariants as cell
+use Rattle.amoebot_state.specs.declared.verdict.Entry.{Entry}
 use Rattle.amoebot_state.specs.declared.verdict.PlainEntry.{PlainEntry}
 use Rattle.amoebot_state.specs.declared.verdict.Verdict.{Verdict}
 use Rattle.amoebot_state.specs.declared.verdict.Verdict.TheVariants as verdict
 use Rattle.amoebot_state.specs.Pairs.{Triples}
 use Rattle.amoebot_state.specs.Zones.{shown}
 use Rattle.amoebot_state.specs.Steps.{Step, Run, change_of, plain_entry}
-use Rattle.serial_model.specs.Replays.{PlainStep, PlainRun}
+use Rattle.serial_model.specs.Forms.{full_entry}
+use Rattle.serial_model.specs.Replays.{RunIn}
 use Rattle.claim_core.specs.declared.marks.Mark.TheVariants as mark
 use Rattle.claim_core.specs.declared.state.Caller.{Caller}
 use Rattle.claim_core.specs.declared.state.Phase.TheVariants.{Releasing, Ended}
@@ -28,7 +30,7 @@ use Rattle.small_worlds.specs.Rows.{node, two_beside, expanded, one_refused}
 use Rattle.small_worlds.proofs.Rows.{IsThereIn, one_id, may_run, valid, same_ids, one_has_ended, two_have_ended, reached, good}
 use Rattle.command_runs.specs.Run.{IsRunReport}
 use Rattle.command_runs.specs.Interleave.{at_round, IsScheduled}
-use Rattle.command_runs.specs.Replay.{DiffersAt, PlainDiffersAt, at_entry, at_end}
+use Rattle.command_runs.specs.Replay.{DiffersAt, at_entry, at_end}
 use Rattle.command_runs.specs.Sample.{IsSampleText}
 use Rattle.command_runs.proofs.CountedRounds.{goes_on, one_round, plain_round}
 use Rattle.command_runs.proofs.Measures.{nobody_is_measured, one_is_measured, two_are_measured, spread_is_connected}
@@ -91,24 +93,18 @@ left = record { first = refl; entries = refl; world = record { same = record { r
 scheduled : IsScheduled two_beside two_caller_schedule one_refused
 scheduled = record { count = 4; ended = ended; first = first_round; left = left }
 
-no_step : DiffersAt decides start (second_expansion ∷ second_expansion ∷ []) second_spread 1
-no_step = at_entry 1 (record { entry = second_expansion; there = refl; world = second_spread; before = run; none = λ new s. let d = s.decided in cc })
+-- the entry in a form, and its run
+run_in : {E : Type 0} (form : Entry → E) → RunIn form decides start (form second_expansion ∷ []) second_spread
+run_in form = record { source = second_expansion ∷ []; tells = refl; holds = run }
 
--- ---- without old values
-
-plain_step : PlainStep decides start (plain_entry second_expansion) second_spread
-plain_step = record { entry = second_expansion; plain = refl; step = step }
-
-plain_run : PlainRun decides start (plain_entry second_expansion ∷ []) second_spread
-plain_run = (second_spread, plain_step, refl)
-
-no_plain_step : PlainDiffersAt decides start (plain_entry second_expansion ∷ plain_entry second_expansion ∷ []) second_spread 1
-no_plain_step = at_entry 1 (record {
-  entry = plain_entry second_expansion;
+-- once it is expanded, no step of its entry is one, in each form that tells its amoebot
+no_step_in : {E : Type 0} (form : Entry → E) → ((e : Entry) → form e ≡ form second_expansion → e.bot ≡ second_expansion.bot) → DiffersAt form decides start (form second_expansion ∷ form second_expansion ∷ []) second_spread 1
+no_step_in form bots = at_entry 1 (record {
+  entry = form second_expansion;
   there = refl;
   world = second_spread;
-  before = plain_run;
-  none = λ new s. let d = subst (λ (i : ℕ). decides (shown second_spread i) ≡ verdict.Change (change_of s.entry)) (ap (λ (p : PlainEntry). p.bot) s.plain) s.step.decided in cc;
+  before = run_in form;
+  none = λ new by. let d = subst (λ (i : ℕ). decides (shown second_spread i) ≡ verdict.Change (change_of by.source)) (bots by.source by.tells) by.holds.decided in cc;
 })
 
 -- the change that is decided has the old values that were found
@@ -117,20 +113,21 @@ changes_of verdict.Idle = []
 changes_of (verdict.Failed f) = []
 changes_of (verdict.Change change) = change.patch
 
-other_old : DiffersAt decides start (other_old_value ∷ []) second_spread 0
+other_old : DiffersAt full_entry decides start (other_old_value ∷ []) second_spread 0
 other_old = at_entry 0 (record {
   entry = other_old_value;
   there = refl;
   world = start;
-  before = refl;
-  none = λ new s.
-      let same : second_expansion.patch ≡ other_old_value.patch = ap changes_of (sym step.decided ∙ s.decided) in
+  before = record { source = []; tells = refl; holds = refl };
+  none = λ new by.
+      let other : Step decides start other_old_value new = subst (λ (e : Entry). Step decides start e new) by.tells by.holds in
+      let same : second_expansion.patch ≡ other_old_value.patch = ap changes_of (sym step.decided ∙ other.decided) in
       let first : cell.Spot None ≡ cell.Spot (Some 0) = ap (λ (ts : Triples). (get_or ts 0 (name.Body 0, cell.Spot None, cell.Spot None)).1) same in
       cc;
 })
 
-other_shape : DiffersAt decides start (second_expansion ∷ []) start 1
-other_shape = at_end second_spread run (λ same. let e = ap (λ (c : Config). occupant c (node 2)) same in cc)
+other_shape : DiffersAt full_entry decides start (second_expansion ∷ []) start 1
+other_shape = at_end second_spread (run_in full_entry) (λ same. let e = ap (λ (c : Config). occupant c (node 2)) same in cc)
 
 -- a report of `run` that is reached
 reported : ReachedIsGood → OneListIsSerial → (g : Setup) (report : Report) → IsSetup g → Reached g report → IsRunReport g.verdict g.world g.lists report
@@ -157,16 +154,16 @@ small_commands goods serials connected one = record {
   text_in_full = refl;
   interleave = record { good = good; reached = reached; scheduled = scheduled };
   agrees = run;
-  differs = no_step;
+  differs = no_step_in full_entry (λ e same. ap (λ (d : Entry). d.bot) same);
   other_shape = other_shape;
   one_round = one_round run;
   goes_on = goes_on step;
   nobody_waits = refl;
-  plain_agrees = plain_run;
+  plain_agrees = run_in plain_entry;
   plain_round = plain_round run;
-  plain_differs = no_plain_step;
+  plain_differs = no_step_in plain_entry (λ e same. ap (λ (p : PlainEntry). p.bot) same);
   other_old = other_old;
-  no_old = plain_run;
+  no_old = run_in plain_entry;
   agrees_line = refl;
   check_text = refl;
   renewed = refl;

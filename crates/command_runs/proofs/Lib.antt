@@ -1,8 +1,6 @@
 pub mod Canonical
 pub mod CountedRounds
 pub mod Entries
-pub mod FedMeters
-pub mod Followed
 pub mod Interleavings
 pub mod Replays
 pub mod RoundsDecided
@@ -13,3 +11,4 @@ pub mod SampleTexts
 pub mod ExampleLemmas
 pub mod Scheduled
 pub mod Measures
+pub mod ToldEntries

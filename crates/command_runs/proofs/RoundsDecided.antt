@@ -1,34 +1,32 @@
 -- Rounds are told in one way, and those of entries that agree are told.
 use Rattle.std.proofs.Common.{◌≡◌, ◌<◌, ◌∙◌, ℕ, List, length, sym, subst}
 use Rattle.std.specs.Prelude.{IsSome}
-use Rattle.amoebot_state.specs.declared.verdict.PlainEntry.{PlainEntry}
+use Rattle.amoebot_state.specs.declared.verdict.Change.{Change}
+use Rattle.amoebot_state.specs.declared.verdict.Entry.{Entry}
 use Rattle.amoebot_state.specs.declared.verdict.Verdict.{Verdict}
 use Rattle.amoebot_state.specs.Configs.{Config, IsValid, bot_at}
 use Rattle.amoebot_state.specs.Zones.{Shown}
-use Rattle.serial_model.specs.Laws.{PlainRunIsRun, PlainRunIsUnique}
+use Rattle.serial_model.specs.Forms.{IsForm}
+use Rattle.serial_model.specs.Laws.{PlainRunIsUnique}
 use Rattle.round_meter.specs.Rounds.{IsRounded}
 use Rattle.round_meter.specs.Laws.{EachRunIsRounded, RoundsAreUnique}
-use Rattle.command_runs.specs.Replay.{PlainAgrees}
-use Rattle.command_runs.specs.Rounds.{PlainAgreesInRounds}
+use Rattle.command_runs.specs.Replay.{AgreesIn}
+use Rattle.command_runs.specs.Rounds.{CountedIn}
 use Rattle.command_runs.specs.Laws.{RoundsAreDecided}
+use Rattle.command_runs.proofs.ToldEntries.{plain_alike}
 
--- entries without old values are those of one run, so its rounds are one
-one_of_plain : RoundsAreUnique → PlainRunIsUnique → (f : Shown → Verdict) (start final : Config) (entries : List PlainEntry) (rounds waiting others still : ℕ) → PlainAgreesInRounds f start entries final rounds waiting → PlainAgreesInRounds f start entries final others still → (rounds ≡ others) × (waiting ≡ still)
-one_of_plain unique one_run f start final entries rounds waiting others still one two =
-    let same = one_run f start final final one.entries two.entries one.counted.agrees two.counted.agrees (one.told ∙ sym two.told) in
-    unique f start two.entries rounds waiting others still (subst (λ es. IsRounded f start es rounds waiting) same.0 one.counted.counted) two.counted.counted
+module _ {E : Type 0} {form : Entry → E} {bot : E → ℕ} {entry : E → Change → Entry} (is : IsForm form bot entry) where
+  -- entries in a form are those of one run, so its rounds are one
+  one : RoundsAreUnique → PlainRunIsUnique → (f : Shown → Verdict) (start final : Config) (told : List E) (rounds waiting others still : ℕ) → CountedIn form f start told final rounds waiting → CountedIn form f start told final others still → (rounds ≡ others) × (waiting ≡ still)
+  one unique one_run f start final told rounds waiting others still first second =
+      let alike = plain_alike is first.source second.source (first.tells ∙ sym second.tells) in
+      let same = one_run f start final final first.source second.source first.holds.agrees second.holds.agrees alike in
+      unique f start second.source rounds waiting others still (subst (λ es. IsRounded f start es rounds waiting) same.0 first.holds.counted) second.holds.counted
 
-some_of_plain : EachRunIsRounded → PlainRunIsRun → (f : Shown → Verdict) (start final : Config) (entries : List PlainEntry) → IsValid start → ((b : ℕ) → b < length start.bots → IsSome (bot_at start b)) → PlainAgrees f start entries final → (rounds : ℕ) × (waiting : ℕ) × PlainAgreesInRounds f start entries final rounds waiting
-some_of_plain each is_run f start final entries valid no_gaps agrees =
-    let run = (is_run f start final entries).0 agrees in
-    let told = each f start final run.0 valid no_gaps run.2 in
-    (told.0, told.1, record { entries = run.0; told = run.1; counted = record { agrees = run.2; counted = told.2 } })
+  some : EachRunIsRounded → (f : Shown → Verdict) (start final : Config) (told : List E) → IsValid start → ((b : ℕ) → b < length start.bots → IsSome (bot_at start b)) → AgreesIn form f start told final → (rounds : ℕ) × (waiting : ℕ) × CountedIn form f start told final rounds waiting
+  some each f start final told valid no_gaps by =
+      let counted = each f start final by.source valid no_gaps by.holds in
+      (counted.0, counted.1, record { source = by.source; tells = by.tells; holds = record { agrees = by.holds; counted = counted.2 } })
 
-pub rounds_are_decided : RoundsAreUnique → EachRunIsRounded → PlainRunIsRun → PlainRunIsUnique → RoundsAreDecided
-rounds_are_decided unique each is_run one_run = record {
-  one = λ f start final entries rounds waiting others still one two. unique f start entries rounds waiting others still one.counted two.counted;
-  some = λ f start final entries valid no_gaps agrees. (let told = each f start final entries valid no_gaps agrees in (told.0, told.1, record { agrees = agrees; counted = told.2 }));
-  plain_agrees = λ f start final entries rounds waiting by. (is_run f start final entries).1 (by.entries, by.told, by.counted.agrees);
-  plain_one = one_of_plain unique one_run;
-  plain_some = some_of_plain each is_run;
-}
+  pub rounds_are_decided : RoundsAreUnique → EachRunIsRounded → PlainRunIsUnique → RoundsAreDecided form
+  rounds_are_decided unique each one_run = record { one = one unique one_run; some = some each }

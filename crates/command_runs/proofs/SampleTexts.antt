@@ -8,6 +8,8 @@ use Rattle.amoebot_state.specs.declared.verdict.Verdict.{Verdict}
 use Rattle.amoebot_state.specs.Configs.{Config}
 use Rattle.amoebot_state.specs.Occupied.{occupied}
 use Rattle.amoebot_state.specs.Zones.{Shown}
+use Rattle.serial_model.specs.Forms.{full_entry}
+use Rattle.serial_model.proofs.Runs.{full_is_itself}
 use Rattle.claim_core.specs.declared.report.Report.{Report}
 use Rattle.claim_core.specs.Turns.{CallerLists}
 use Rattle.command_runs.specs.Replay.{Agrees, DiffersAt}
@@ -21,9 +23,9 @@ sample_text_is_one f start lists seed report text other x y =
     x.whole ∙ (λ i. sample_text seed (length start.bots) (length lists.ids) (length lists.ids * lists.turns) (connected i) (agrees i)) ∙ sym y.whole
 
 -- what agrees does not differ, under other names of its start and its entries
-pub excluded : ReplayIsDecided → (f : Shown → Verdict) (start first final : Config) (entries same : List Entry) (place : ℕ) → first ≡ start → same ≡ entries → DiffersAt f first same final place → Agrees f start entries final → ⊥
+pub excluded : ReplayIsDecided full_entry → (f : Shown → Verdict) (start first final : Config) (entries same : List Entry) (place : ℕ) → first ≡ start → same ≡ entries → DiffersAt full_entry f first same final place → Agrees f start entries final → ⊥
 excluded decided f start first final entries same place from es differs agrees =
-    decided.exclusive f start final entries place agrees (subst (λ (z : Config × List Entry). DiffersAt f z.0 z.1 final place) (λ i. (from i, es i)) differs)
+    decided.exclusive f start final entries place ((full_is_itself.run f start final entries).1 agrees) (subst (λ (z : Config × List Entry). DiffersAt full_entry f z.0 z.1 final place) (λ i. (from i, es i)) differs)
 
 -- the text that is told of a report's numbers is its text
 pub is_text : (f : Shown → Verdict) (lists : CallerLists) (seed : ℕ) (report : Report) (bots callers turns : ℕ) (connected agrees : Bool) (text : List ℕ)

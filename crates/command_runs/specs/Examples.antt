@@ -9,10 +9,11 @@ use Rattle.amoebot_state.specs.declared.verdict.Verdict.{Verdict}
 use Rattle.amoebot_state.specs.Configs.{Config, with_these}
 use Rattle.amoebot_state.specs.Zones.{Shown}
 use Rattle.amoebot_state.specs.Steps.{plain_entry}
+use Rattle.serial_model.specs.Forms.{full_entry}
 use Rattle.claim_core.specs.declared.marks.Mark.TheVariants as mark
 use Rattle.claim_core.specs.declared.report.Report.{Report}
 use Rattle.claim_core.specs.Turns.{CallerLists}
-use Rattle.round_meter.specs.Meters.{Metered, GoesOnBy, waiting_of}
+use Rattle.round_meter.specs.Meters.{Metered, GoesOnIn, waiting_of}
 use Rattle.small_worlds.specs.Rows.{node, row_frame, row_with, bot_in_row, two_beside, expanded, one_refused}
 use Rattle.action_print.specs.Pins.{counting}
 use Rattle.command_runs.specs.Check.{check_text}
@@ -21,9 +22,9 @@ use Rattle.command_runs.specs.Reports.{report_text}
 use Rattle.command_runs.specs.Run.{IsRunReport}
 use Rattle.command_runs.specs.Interleave.{IsInterleaveReport}
 use Rattle.command_runs.specs.Renew.{renewed_text}
-use Rattle.command_runs.specs.Replay.{Agrees, DiffersAt, PlainAgrees, PlainDiffersAt, agrees_line, differs_line}
+use Rattle.command_runs.specs.Replay.{Agrees, AgreesIn, DiffersAt, agrees_line, differs_line}
 use Rattle.command_runs.specs.Measure.{IsMeasureText}
-use Rattle.command_runs.specs.Rounds.{AgreesInRounds, PlainAgreesInRounds, rounds_text}
+use Rattle.command_runs.specs.Rounds.{AgreesInRounds, CountedIn, rounds_text}
 use Rattle.command_runs.specs.Sample.{IsSampleText}
 
 -- the shape at the start, and the one in which the second amoebot has expanded
@@ -126,20 +127,20 @@ pub record SmallCommands : Type 0 where
   pub interleave : IsInterleaveReport decides start two_beside.lists two_caller_schedule one_refused
   pub agrees : Agrees decides start (second_expansion ∷ []) second_spread
   -- the amoebot is expanded when it is to expand again
-  pub differs : DiffersAt decides start (second_expansion ∷ second_expansion ∷ []) second_spread 1
-  pub other_shape : DiffersAt decides start (second_expansion ∷ []) start 1
+  pub differs : DiffersAt full_entry decides start (second_expansion ∷ second_expansion ∷ []) second_spread 1
+  pub other_shape : DiffersAt full_entry decides start (second_expansion ∷ []) start 1
   -- the first amoebot rests, since the second one stands before it, and the second one acts: a round, after which both rest
   pub one_round : AgreesInRounds decides start (second_expansion ∷ []) second_spread 1 0
   -- a meter counts that round, and nobody waits then
-  pub goes_on : GoesOnBy decides (plain_entry second_expansion) meter_at_start meter_behind
+  pub goes_on : GoesOnIn plain_entry decides (plain_entry second_expansion) meter_at_start meter_behind
   pub nobody_waits : waiting_of meter_behind ≡ 0
   -- the same entries without their old values
-  pub plain_agrees : PlainAgrees decides start (plain_entry second_expansion ∷ []) second_spread
-  pub plain_round : PlainAgreesInRounds decides start (plain_entry second_expansion ∷ []) second_spread 1 0
-  pub plain_differs : PlainDiffersAt decides start (plain_entry second_expansion ∷ plain_entry second_expansion ∷ []) second_spread 1
+  pub plain_agrees : AgreesIn plain_entry decides start (plain_entry second_expansion ∷ []) second_spread
+  pub plain_round : CountedIn plain_entry decides start (plain_entry second_expansion ∷ []) second_spread 1 0
+  pub plain_differs : DiffersAt plain_entry decides start (plain_entry second_expansion ∷ plain_entry second_expansion ∷ []) second_spread 1
   -- with another old value the entry is no step; without it, that does not show
-  pub other_old : DiffersAt decides start (other_old_value ∷ []) second_spread 0
-  pub no_old : PlainAgrees decides start (plain_entry other_old_value ∷ []) second_spread
+  pub other_old : DiffersAt full_entry decides start (other_old_value ∷ []) second_spread 0
+  pub no_old : AgreesIn plain_entry decides start (plain_entry other_old_value ∷ []) second_spread
   pub agrees_line : agrees_line 12 ≡ codes "agrees 12\n"
   pub check_text : check_text 1 counting ≡ codes "amoebot 1\n" ++ counting_program
   pub renewed : renewed_text counting start (second_expansion ∷ []) second_spread ≡ counting_renewed

@@ -3,7 +3,6 @@ use Rattle.std.specs.Prelude.{◌≡◌, ◌<◌, ◌≤◌, ◌*◌, ◌⊎◌,
 use Rattle.std.specs.List.{All}
 use Rattle.tri_lattice.specs.Sets.{IsConnected}
 use Rattle.amoebot_state.specs.declared.verdict.Entry.{Entry}
-use Rattle.amoebot_state.specs.declared.verdict.PlainEntry.{PlainEntry}
 use Rattle.amoebot_state.specs.declared.verdict.Verdict.{Verdict}
 use Rattle.amoebot_state.specs.Configs.{Config, IsValid, bot_at}
 use Rattle.amoebot_state.specs.Steps.{HasPatchedWorld}
@@ -23,8 +22,8 @@ use Rattle.action_check.specs.Faults.{AreRulesKept}
 use Rattle.action_meaning.specs.Verdicts.{verdict_on, verdict_shown}
 use Rattle.command_runs.specs.Run.{IsRunText}
 use Rattle.command_runs.specs.Interleave.{IsScheduled, IsInterleaveText}
-use Rattle.command_runs.specs.Replay.{Agrees, DiffersAt, PlainAgrees, PlainDiffersAt}
-use Rattle.command_runs.specs.Rounds.{AgreesInRounds, PlainAgreesInRounds}
+use Rattle.command_runs.specs.Replay.{AgreesIn, DiffersAt}
+use Rattle.command_runs.specs.Rounds.{CountedIn}
 use Rattle.command_runs.specs.Measure.{IsMeasureText}
 use Rattle.command_runs.specs.Sample.{IsSampleText}
 
@@ -60,57 +59,32 @@ InterleaveTextIsOne =
     → IsInterleaveText version p start lists schedule two other
     → SameReport one two × (text ≡ other)
 
--- what agrees differs nowhere, and what differs does so at one place;
--- and where each change that is decided leads somewhere, a journal from a valid shape agrees or differs.
--- So it is of entries with their old values, and of those without
-pub record ReplayIsDecided : Type 0 where
-  pub exclusive : (f : Shown → Verdict) (start final : Config) (entries : List Entry) (place : ℕ)
-      → Agrees f start entries final
-      → ¬ DiffersAt f start entries final place
-  pub one_place : (f : Shown → Verdict) (start final : Config) (entries : List Entry) (one two : ℕ)
-      → DiffersAt f start entries final one
-      → DiffersAt f start entries final two
+-- Of entries in a form: what agrees differs nowhere, and what differs does so at one place.
+-- Where each change that is decided leads somewhere, a journal from a valid shape agrees or differs.
+pub record ReplayIsDecided {E : Type 0} (form : Entry → E) : Type 0 where
+  pub exclusive : (f : Shown → Verdict) (start final : Config) (told : List E) (place : ℕ)
+      → AgreesIn form f start told final
+      → ¬ DiffersAt form f start told final place
+  pub one_place : (f : Shown → Verdict) (start final : Config) (told : List E) (one two : ℕ)
+      → DiffersAt form f start told final one
+      → DiffersAt form f start told final two
       → one ≡ two
-  pub some : (f : Shown → Verdict) (start final : Config) (entries : List Entry)
+  pub some : (f : Shown → Verdict) (start final : Config) (told : List E)
       → HasPatchedWorld f
       → IsValid start
-      → Agrees f start entries final ⊎ ((place : ℕ) × DiffersAt f start entries final place)
-  pub plain_exclusive : (f : Shown → Verdict) (start final : Config) (entries : List PlainEntry) (place : ℕ)
-      → PlainAgrees f start entries final
-      → ¬ PlainDiffersAt f start entries final place
-  pub plain_one_place : (f : Shown → Verdict) (start final : Config) (entries : List PlainEntry) (one two : ℕ)
-      → PlainDiffersAt f start entries final one
-      → PlainDiffersAt f start entries final two
-      → one ≡ two
-  pub plain_some : (f : Shown → Verdict) (start final : Config) (entries : List PlainEntry)
-      → HasPatchedWorld f
-      → IsValid start
-      → PlainAgrees f start entries final ⊎ ((place : ℕ) × PlainDiffersAt f start entries final place)
+      → AgreesIn form f start told final ⊎ ((place : ℕ) × DiffersAt form f start told final place)
 
--- Rounds are told in one way. Entries from a valid shape without gaps that agree have rounds that are told.
--- So it is of entries with their old values, and of those without; and where rounds are told of those without, these agree
-pub record RoundsAreDecided : Type 0 where
-  pub one : (f : Shown → Verdict) (start final : Config) (entries : List Entry) (rounds waiting others still : ℕ)
-      → AgreesInRounds f start entries final rounds waiting
-      → AgreesInRounds f start entries final others still
+-- Of entries in a form: rounds are told in one way. Entries from a valid shape without gaps that agree have rounds that are told.
+pub record RoundsAreDecided {E : Type 0} (form : Entry → E) : Type 0 where
+  pub one : (f : Shown → Verdict) (start final : Config) (told : List E) (rounds waiting others still : ℕ)
+      → CountedIn form f start told final rounds waiting
+      → CountedIn form f start told final others still
       → (rounds ≡ others) × (waiting ≡ still)
-  pub some : (f : Shown → Verdict) (start final : Config) (entries : List Entry)
+  pub some : (f : Shown → Verdict) (start final : Config) (told : List E)
       → IsValid start
       → ((b : ℕ) → b < length start.bots → IsSome (bot_at start b))
-      → Agrees f start entries final
-      → (rounds : ℕ) × (waiting : ℕ) × AgreesInRounds f start entries final rounds waiting
-  pub plain_agrees : (f : Shown → Verdict) (start final : Config) (entries : List PlainEntry) (rounds waiting : ℕ)
-      → PlainAgreesInRounds f start entries final rounds waiting
-      → PlainAgrees f start entries final
-  pub plain_one : (f : Shown → Verdict) (start final : Config) (entries : List PlainEntry) (rounds waiting others still : ℕ)
-      → PlainAgreesInRounds f start entries final rounds waiting
-      → PlainAgreesInRounds f start entries final others still
-      → (rounds ≡ others) × (waiting ≡ still)
-  pub plain_some : (f : Shown → Verdict) (start final : Config) (entries : List PlainEntry)
-      → IsValid start
-      → ((b : ℕ) → b < length start.bots → IsSome (bot_at start b))
-      → PlainAgrees f start entries final
-      → (rounds : ℕ) × (waiting : ℕ) × PlainAgreesInRounds f start entries final rounds waiting
+      → AgreesIn form f start told final
+      → (rounds : ℕ) × (waiting : ℕ) × CountedIn form f start told final rounds waiting
 
 -- with the guard on and a connected shape at the start, the shape is connected in each world of the run
 abbrev pub StaysConnectedIn : Program → Config → List Entry → Type 0

@@ -5,14 +5,12 @@ ghost use Rattle.command_runs.specs.Laws.{ReplayIsDecided, RoundsAreDecided, Run
 ghost use Rattle.command_runs.specs.Examples.{SmallCommands};
 
 use action_meaning::program_runs_stay_connected;
-use amoebot_state::run_has_one_last;
 use claim_core::{
     one_list_is_serial, reached_is_good, serial_run_is_determined, state_has_one_report,
 };
 use round_meter::{each_run_is_rounded, rounds_are_unique};
 use serial_model::{
-    first_no_plain_step_is_unique, first_no_step_is_unique, plain_run_has_only_steps,
-    plain_run_is_run, plain_run_is_unique, plain_run_or_first, run_has_only_steps,
+    EntryForm, first_no_step_is_unique, plain_run_is_unique, run_has_only_steps,
     run_or_first_no_step,
 };
 use shape_checks::hexagon_laws;
@@ -33,29 +31,21 @@ pub fn interleave_text_is_one()
 }
 
 /// A journal that agrees differs nowhere, and one that differs does so at one place. From a valid shape each journal does one of both.
-/// So it is of entries without old values.
-pub fn replay_is_decided()
-    ensures { ReplayIsDecided }
+pub fn replay_is_decided<E: EntryForm>()
+    ensures { ReplayIsDecided E.form }
 {
-    first_no_step_is_unique();
-    run_has_only_steps();
-    run_has_one_last();
-    run_or_first_no_step();
-    first_no_plain_step_is_unique();
-    plain_run_has_only_steps();
-    plain_run_is_run();
+    first_no_step_is_unique::<E>();
+    run_has_only_steps::<E>();
+    run_or_first_no_step::<E>();
     plain_run_is_unique();
-    plain_run_or_first();
 }
 
-/// The rounds of a run are told in one way, and entries from a valid shape without gaps that agree have rounds that are told. So it is of
-/// entries without old values too.
-pub fn rounds_are_decided()
-    ensures { RoundsAreDecided }
+/// The rounds of a run are told in one way, and entries from a valid shape without gaps that agree have rounds that are told.
+pub fn rounds_are_decided<E: EntryForm>()
+    ensures { RoundsAreDecided E.form }
 {
     rounds_are_unique();
     each_run_is_rounded();
-    plain_run_is_run();
     plain_run_is_unique();
 }
 

@@ -12,7 +12,7 @@ mod replaying;
 mod sampling;
 mod texts;
 
-pub use counting::{RoundCount, count_plain_rounds, count_rounds};
+pub use counting::{RoundCount, count_rounds};
 pub use explaining::{print_election, print_rounds};
 pub use interleaving::run_interleaved;
 pub use laws::{
@@ -22,6 +22,6 @@ pub use laws::{
 };
 pub use measuring::print_measures;
 pub use renewing::follow_all;
-pub use replaying::{compare, compare_plain};
+pub use replaying::compare;
 pub use sampling::print_sample;
 pub use texts::{print_agrees, print_check, print_differs, print_renewed, print_report};

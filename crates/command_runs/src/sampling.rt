@@ -7,7 +7,7 @@ ghost use Rattle.command_runs.specs.Sample.{IsSampleText, sample_text};
 use crate::laws::replay_is_decided;
 use crate::replaying::compare;
 use crate::texts::{put_answer, put_number};
-use amoebot_state::{Decider, NoMemory};
+use amoebot_state::{Decider, Entry, NoMemory};
 use claim_core::{Lists, Report};
 use shape_checks::is_connected;
 use std::alloc::Global;
@@ -49,7 +49,7 @@ fn agrees<D: Decider>(alloc: Global, decider: &D, report: &Report) -> Result<boo
     ensures { IfOk result (λ agrees. Decides agrees
         (Agrees (D.verdict decider.now) report.now.journal.first report.now.journal.entries report.now.world)) }
 {
-    replay_is_decided();
+    replay_is_decided::<Entry>();
     let first = report.journal.first().copy(alloc)?;
     match compare(decider, first, report.journal.entries(), &report.world) {
         Ok(()) => Ok(true),

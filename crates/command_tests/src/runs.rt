@@ -8,7 +8,7 @@ ghost use Rattle.amoebot_state.specs.Refusals.{IsBotInRange};
 use amoebot_state::{Bot, Decider, End, Entry, NoMemory, PlainEntry, Port, World};
 use claim_core::Report;
 use command_runs::{
-    RoundCount, compare, compare_plain, count_rounds, follow_all, print_agrees, print_differs,
+    RoundCount, compare, count_rounds, follow_all, print_agrees, print_differs,
     print_election, print_report, print_rounds, run_interleaved,
 };
 use schedule_text::{Schedule, read_schedule};
@@ -243,7 +243,7 @@ fn compared_plain(
     if entries.len() > 4096 || !entries.iter().all(|entry| entry.bot < bots) {
         Err("entries")?;
     }
-    let compared = compare_plain(&EXPANDER, start.copy(alloc)?, entries, last);
+    let compared = compare(&EXPANDER, start.copy(alloc)?, entries, last);
     let followed = follow_all(alloc, &EXPANDER, start, entries, last)?;
     Ok((compared, followed))
 }

@@ -1,5 +1,5 @@
 -- Lists of other lengths are other lists.
-use Rattle.std.proofs.Common.{◌≡◌, ◌≢◌, ◌+◌, ◌∙◌, ℕ, suc, false, List, [], ◌∷◌, length, ap, refl, Decides}
+use Rattle.std.proofs.Common.{◌≡◌, ◌≢◌, ◌∙◌, ℕ, suc, false, List, [], ◌∷◌, length, ap, refl, Decides}
 use Rattle.action_tree.specs.declared.expression.Guard.{Guard}
 use Rattle.action_tree.specs.declared.expression.Part.{Part}
 use Rattle.action_tree.specs.declared.statement.Stmt.{Stmt}

@@ -2,7 +2,8 @@
 
 ghost use Rattle.std.specs.Prelude.{◌≡◌, ◌⊎◌, ◌<◌, ◌+◌, ◌^◌, length, IfOk, IfErr, OnOk, OnErr};
 ghost use Rattle.amoebot_state.specs.Steps.{Step};
-ghost use Rattle.serial_model.specs.Replays.{IsNoStep};
+ghost use Rattle.serial_model.specs.Forms.{full_entry};
+ghost use Rattle.serial_model.specs.Replays.{IsNoStep, StepIn};
 ghost use Rattle.shape_checks.specs.Values.{value_count};
 ghost use Rattle.action_check.specs.Maxes.{maxes_of};
 ghost use Rattle.action_meaning.specs.Verdicts.{verdict_shown};
@@ -15,7 +16,7 @@ use crate::refusal::ElectRefusal;
 use crate::start::check_start;
 use action_eval::Runner;
 use amoebot_state::{Entry, World};
-use serial_model::{Differs, make_step};
+use serial_model::{Differs, EntryForm, full_is_itself, make_step_in};
 use shape_checks::count_value;
 use std::alloc::Global;
 use std::marker::Model;
@@ -79,11 +80,27 @@ impl Election {
         ensures steps { OnOk result (self.new.steps ≡ self.old.steps + 1) }
         ensures program { self.new.program ≡ self.old.program }
         ensures place { IfErr result (λ e. e.place ≡ self.old.steps) }
-        ensures none { OnErr result (IsNoStep (verdict_shown self.old.program) self.old.world entry.now) }
+        ensures none { OnErr result (IsNoStep full_entry (verdict_shown self.old.program) self.old.world entry.now) }
         ensures stays { OnErr result (self.new ≡ self.old) }
         ensures size { length self.new.world.bots ≡ length self.old.world.bots }
     {
-        if !make_step(&self.runner, &mut self.world, entry) {
+        full_is_itself();
+        self.step_in(entry)
+    }
+
+    /// The same of an entry in a form.
+    pub fn step_in<E: EntryForm>(&mut self, told: &E) -> Result<(), Differs>
+        requires there { E.bot told.now < length self.old.world.bots }
+        requires few { self.old.steps + 1 < 2 ^ 32 }
+        ensures step { OnOk result (StepIn E.form (verdict_shown self.old.program) self.old.world told.now self.new.world) }
+        ensures steps { OnOk result (self.new.steps ≡ self.old.steps + 1) }
+        ensures program { self.new.program ≡ self.old.program }
+        ensures place { IfErr result (λ e. e.place ≡ self.old.steps) }
+        ensures none { OnErr result (IsNoStep E.form (verdict_shown self.old.program) self.old.world told.now) }
+        ensures stays { OnErr result (self.new ≡ self.old) }
+        ensures size { length self.new.world.bots ≡ length self.old.world.bots }
+    {
+        if !make_step_in(&self.runner, &mut self.world, told) {
             return Err(Differs { place: self.steps });
         }
         self.steps += 1;

@@ -19,8 +19,8 @@ use Rattle.amoebot_state.specs.Steps.{OldValuesAreFound, change_of}
 use Rattle.amoebot_state.proofs.Fits.{patched_or_not, cells_or_not}
 use Rattle.amoebot_state.proofs.Patched.{patched_is_unique}
 use Rattle.amoebot_state.proofs.Reversed.{reversed_leads_back, found_now}
-use Rattle.serial_model.proofs.FirstNoSteps.{there_or_not}
-use Rattle.serial_model.proofs.SameChanges.{same_or_not}
+use Rattle.serial_model.proofs.Runs.{there_or_not}
+use Rattle.serial_model.specs.SameChanges.{same_or_not}
 use Rattle.rewind_log.specs.Rewinds.{IsStepBack, IsNoStepBack}
 use Rattle.rewind_log.specs.Laws.{StepBackIsUnique, StepBackOrNone}
 

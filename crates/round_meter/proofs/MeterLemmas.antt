@@ -8,6 +8,7 @@ use Rattle.std.proofs.lemmas.List.Elements.{All-get_or, All-map, All-weaker}
 use Rattle.std.proofs.lemmas.List.FromFn.{get_or-map-range_with_len, length-range_with_len}
 use Rattle.std.proofs.lemmas.List.Sums.{sum_by-cons}
 use Rattle.std.proofs.lemmas.Result.{IfErr-weaker}
+use Rattle.amoebot_state.specs.declared.verdict.Change.{Change}
 use Rattle.amoebot_state.specs.declared.verdict.Entry.{Entry}
 use Rattle.amoebot_state.specs.declared.verdict.Verdict.{Verdict}
 use Rattle.amoebot_state.specs.Configs.{Config, IsValid, bot_at}
@@ -17,9 +18,10 @@ use Rattle.amoebot_state.specs.Zones.{Shown, shown}
 use Rattle.amoebot_state.specs.Steps.{Step, Run, change_of}
 use Rattle.amoebot_state.proofs.Members.{Has, here, later}
 use Rattle.amoebot_state.proofs.Runs.{run_push}
+use Rattle.serial_model.specs.Forms.{IsForm}
 use Rattle.round_meter.specs.declared.standing.Standing.{Standing}
 use Rattle.round_meter.specs.Rounds.{IsSettled, AllSettled, RoundsTo, no_round, one_more, enabled_in, is_change}
-use Rattle.round_meter.specs.Meters.{Metered, MeterOf, IsMetered, GoesOnWith, StandsForRun, AreStamped, unsettled, standing_of, this_round, waiting_of, waits_in}
+use Rattle.round_meter.specs.Meters.{Metered, MeterOf, IsMetered, GoesOnWith, GoesOnIn, StandsForRun, AreStamped, unsettled, standing_of, this_round, waiting_of, waits_in}
 use Rattle.round_meter.specs.Asking.{IsEntered, asked_each, cells_among, ids_asked, next_standings, next_metered, standings_after_entry, first_standing, first_standings, first_metered}
 use Rattle.round_meter.specs.Tallies.{Tallied, IsInStep, metered, waiting_in, with_round_ended, with_standings}
 use Rattle.round_meter.specs.Laws.{EachRunIsRounded, MeterTellsRounds}
@@ -232,6 +234,23 @@ goes_on_with f e old new by below decided stands =
           let there = by.no_gaps b (omega (arith, lt, by.size, is.size)) in
           ap (λ s. is_change (f s)) (unasked_is_shown old.world new.world e.patch b by.valid by.patched there lacks)) in
           subst (IsMetered f first (es ++ e ∷ [])) (sym by.next) next;
+    }
+
+-- and with what is told in a form, where this is the change of the entry that it tells
+pub goes_on_told : {E : Type 0} {form : Entry → E} {bot : E → ℕ} {entry : E → Change → Entry} → IsForm form bot entry → (f : Shown → Verdict) (told : E) (change : Change) (at : ℕ) (old new : Metered)
+    → at ≡ bot told → IsEntered f old at change.patch new → bot told < length old.world.bots → form (entry told change) ≡ told → f (shown old.world (bot told)) ≡ verdict.Change change → StandsForRun f old → GoesOnIn form f told old new
+goes_on_told {E} {form} {bot} {entry} is f told change at old new same by below tells decided stands =
+    let e = entry told change in
+    let its_bot : e.bot ≡ bot told = is.its_bot told change in
+    let its_change : change_of e ≡ change = is.its_change told change in
+    record {
+      source = e;
+      tells = tells;
+      holds = goes_on_with f e old new
+          (subst (λ (i : ℕ). IsEntered f old i e.patch new) (same ∙ sym its_bot) (subst (λ (c : Change). IsEntered f old at c.patch new) (sym its_change) by))
+          (subst (λ (i : ℕ). i < length old.world.bots) (sym its_bot) below)
+          (ap (λ (i : ℕ). f (shown old.world i)) its_bot ∙ decided ∙ ap verdict.Change (sym its_change))
+          stands;
     }
 
 -- and stands for a run then

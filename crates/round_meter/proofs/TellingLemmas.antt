@@ -2,15 +2,17 @@
 use Rattle.std.proofs.Common.{◌≡◌, ◌∙◌, ◌<◌, ◌++◌, ℕ, List, [], ◌∷◌, length, Bool, true, false, not, ap, sym, subst, refl, arith}
 use Rattle.std.specs.Prelude.{Decides}
 use Rattle.std.proofs.lemmas.Bool.Decides.{same_from_decides}
+use Rattle.amoebot_state.specs.declared.verdict.Change.{Change}
 use Rattle.amoebot_state.specs.declared.verdict.Entry.{Entry}
 use Rattle.amoebot_state.specs.declared.verdict.Verdict.{Verdict}
 use Rattle.amoebot_state.specs.Configs.{Config}
 use Rattle.amoebot_state.specs.Zones.{Shown}
 use Rattle.amoebot_state.proofs.Patched.{run_has_one_last}
+use Rattle.serial_model.specs.Forms.{IsForm}
 use Rattle.serial_model.specs.Laws.{PlainStepIsUnique}
 use Rattle.round_meter.specs.Rounds.{IsSettled, enabled_in}
 use Rattle.round_meter.specs.Meters.{Metered, IsMetered, GoesOnWith, TellTheSame, standing_of, this_round, waiting_of, waits_in}
-use Rattle.round_meter.specs.Laws.{MetersTellTheSame, GoesOnWithIsUnique, GoesOnByIsUnique}
+use Rattle.round_meter.specs.Laws.{MetersTellTheSame, GoesOnWithIsUnique, GoesOnInIsUnique}
 use Rattle.round_meter.proofs.RoundsLemmas.{rounds_are_unique, same_end}
 use Rattle.round_meter.proofs.MeterLemmas.{meter_tells_rounds}
 
@@ -56,7 +58,7 @@ goes_on_with_is_unique f e old new other one two =
     let run = one.stands in
     meters_tell_the_same f run.0 (run.1 ++ e ∷ []) new other (one.metered run.0 run.1 run.2) (two.metered run.0 run.1 run.2)
 
-pub goes_on_by_is_unique : PlainStepIsUnique → GoesOnByIsUnique
-goes_on_by_is_unique law f p old new other one two =
-    let same = law f old.world one.entry two.entry new.world other.world one.on.step two.on.step (one.plain ∙ sym two.plain) in
-    (same.0, goes_on_with_is_unique f two.entry old new other (subst (λ e. GoesOnWith f e old new) same.0 one.on) two.on)
+pub goes_on_in_is_unique : {E : Type 0} {form : Entry → E} {bot : E → ℕ} {entry : E → Change → Entry} → PlainStepIsUnique → IsForm form bot entry → GoesOnInIsUnique form
+goes_on_in_is_unique law is f told old new other one two =
+    let same = law f old.world one.source two.source new.world other.world one.holds.step two.holds.step (is.keeps one.source two.source (one.tells ∙ sym two.tells)) in
+    (same.0, goes_on_with_is_unique f two.source old new other (subst (λ e. GoesOnWith f e old new) same.0 one.holds) two.holds)

@@ -1,13 +1,12 @@
 -- What follows from the definitions alone.
 use Rattle.std.specs.Prelude.{◌≡◌, ◌<◌, ℕ, List, length, IsSome}
 use Rattle.amoebot_state.specs.declared.verdict.Entry.{Entry}
-use Rattle.amoebot_state.specs.declared.verdict.PlainEntry.{PlainEntry}
 use Rattle.amoebot_state.specs.declared.verdict.Verdict.{Verdict}
 use Rattle.amoebot_state.specs.Configs.{Config, IsValid, bot_at}
 use Rattle.amoebot_state.specs.Zones.{Shown}
 use Rattle.amoebot_state.specs.Steps.{Run}
 use Rattle.round_meter.specs.Rounds.{EndsRound, IsRounded}
-use Rattle.round_meter.specs.Meters.{Metered, IsMetered, GoesOnBy, GoesOnWith, TellTheSame, waiting_of}
+use Rattle.round_meter.specs.Meters.{Metered, IsMetered, GoesOnIn, GoesOnWith, TellTheSame, waiting_of}
 
 -- the round from a start ends at one place at most
 abbrev pub RoundIsUnique : Type 0
@@ -57,8 +56,9 @@ GoesOnWithIsUnique =
     → GoesOnWith f e old other
     → TellTheSame new other
 
--- and by an entry without old values, which tells one entry
-abbrev pub GoesOnByIsUnique : Type 0
-GoesOnByIsUnique =
-    (f : Shown → Verdict) (p : PlainEntry) (old new other : Metered) (one : GoesOnBy f p old new) (two : GoesOnBy f p old other)
-    → (one.entry ≡ two.entry) × TellTheSame new other
+-- and with what is told in a form in one way too, since it tells one entry
+abbrev pub GoesOnInIsUnique : {E : Type 0} → (Entry → E) → Type 0
+GoesOnInIsUnique {E} form =
+    (f : Shown → Verdict) (told : E) (old new other : Metered)
+    (one : GoesOnIn form f told old new) (two : GoesOnIn form f told old other)
+    → (one.source ≡ two.source) × TellTheSame new other

@@ -2,11 +2,11 @@
 use Rattle.std.specs.Prelude.{◌≡◌, ℕ, ◌+◌, ◌<◌, ◌≤◌, List, [], ◌∷◌, ◌++◌, length, slice_index_or, Bool, false, not, ◌&&◌, nat_eq, Decides, IsSome}
 use Rattle.std.specs.List.{All, count_by}
 use Rattle.amoebot_state.specs.declared.verdict.Entry.{Entry}
-use Rattle.amoebot_state.specs.declared.verdict.PlainEntry.{PlainEntry}
 use Rattle.amoebot_state.specs.declared.verdict.Verdict.{Verdict}
 use Rattle.amoebot_state.specs.Configs.{Config, IsValid, bot_at}
 use Rattle.amoebot_state.specs.Zones.{Shown}
-use Rattle.amoebot_state.specs.Steps.{Run, Step, plain_entry}
+use Rattle.amoebot_state.specs.Steps.{Run, Step}
+use Rattle.serial_model.specs.Forms.{InForm}
 use Rattle.round_meter.specs.declared.standing.Standing.{Standing}
 use Rattle.round_meter.specs.Rounds.{IsSettled, AllSettled, RoundsTo, enabled_in}
 
@@ -81,11 +81,9 @@ pub record GoesOnWith (f : Shown → Verdict) (e : Entry) (old new : Metered) : 
       → IsMetered f first entries old
       → IsMetered f first (entries ++ e ∷ []) new
 
--- it goes on by an entry without old values: with the entry that this one tells
-pub record GoesOnBy (f : Shown → Verdict) (p : PlainEntry) (old new : Metered) : Type 0 where
-  pub entry : Entry
-  pub plain : plain_entry entry ≡ p
-  pub on : GoesOnWith f entry old new
+-- it goes on with an entry that is told in a form
+abbrev pub GoesOnIn : {E : Type 0} → (Entry → E) → (Shown → Verdict) → E → Metered → Metered → Type 0
+GoesOnIn form f told old new = InForm form (λ (e : Entry). GoesOnWith f e old new) told
 
 -- Two meters tell the same of a run and its rounds, and of each amoebot whether it is enabled, and whether it waits.
 -- All else that they keep is the round in which an amoebot was settled last that is not enabled, or that waits. No later round depends

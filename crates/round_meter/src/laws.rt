@@ -1,7 +1,7 @@
 ghost use Rattle.round_meter.specs.Laws.{RoundIsUnique, RoundsAreUnique, EachRunIsRounded, MeterTellsRounds};
-ghost use Rattle.round_meter.specs.Laws.{MetersTellTheSame, GoesOnWithIsUnique, GoesOnByIsUnique};
+ghost use Rattle.round_meter.specs.Laws.{MetersTellTheSame, GoesOnWithIsUnique, GoesOnInIsUnique};
 
-use serial_model::plain_step_is_unique;
+use serial_model::{EntryForm, plain_step_is_unique};
 
 /// The round from a start ends at one place at most.
 pub fn round_is_unique()
@@ -33,9 +33,9 @@ pub fn goes_on_with_is_unique()
     ensures { GoesOnWithIsUnique }
 {}
 
-/// A meter goes on by an entry without old values in one way, and that tells one entry.
-pub fn goes_on_by_is_unique()
-    ensures { GoesOnByIsUnique }
+/// A meter goes on with what is told in a form in one way, and that tells one entry.
+pub fn goes_on_in_is_unique<E: EntryForm>()
+    ensures { GoesOnInIsUnique E.form }
 {
     plain_step_is_unique();
 }

@@ -10,7 +10,7 @@ mod standing;
 mod tally;
 
 pub use laws::{
-    each_run_is_rounded, goes_on_by_is_unique, goes_on_with_is_unique, meter_tells_rounds,
+    each_run_is_rounded, goes_on_in_is_unique, goes_on_with_is_unique, meter_tells_rounds,
     meters_tell_the_same, round_is_unique, rounds_are_unique,
 };
 pub use meter::Meter;

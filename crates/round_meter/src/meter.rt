@@ -1,10 +1,12 @@
 ghost use Rattle.std.specs.Prelude.{◌≡◌, ◌+◌, [], ◌<◌, ◌^◌, length, IfOk, OnOk, IfErr};
-ghost use Rattle.serial_model.specs.Replays.{IsNoStep, IsNoPlainStep};
-ghost use Rattle.round_meter.specs.Meters.{GoesOnWith, GoesOnBy, IsMetered, StandsForRun, waiting_of};
+ghost use Rattle.amoebot_state.specs.Steps.{plain_entry};
+ghost use Rattle.serial_model.specs.Forms.{full_entry};
+ghost use Rattle.serial_model.specs.Replays.{IsNoStep};
+ghost use Rattle.round_meter.specs.Meters.{GoesOnWith, GoesOnIn, IsMetered, StandsForRun, waiting_of};
 
 use crate::progress::Progress;
 use amoebot_state::{Decider, Entry, Found, NoMemory, PlainEntry, World};
-use serial_model::Differs;
+use serial_model::{Differs, EntryForm};
 use std::alloc::Global;
 use std::marker::Model;
 
@@ -50,8 +52,8 @@ impl<'d, D: Decider> Meter<'d, D> {
         let _progress = &self.progress;
     }
 
-    /// Goes on by an entry of one of the world's amoebots. Differs tells that it is no step from the world that was reached, with the
-    /// number of entries fed; the meter is unchanged then. It takes no memory.
+    /// Goes on by an entry of one of the world's amoebots. Differs tells that it is no step from the world that was reached, with
+    /// the number of entries fed; the meter is unchanged then. It takes no memory.
     pub fn feed(&mut self, entry: &Entry) -> Result<(), Differs>
         requires there { entry.now.bot < length self.old.state.world.bots }
         requires few { self.old.state.fed + 1 < 2 ^ 32 }
@@ -59,43 +61,48 @@ impl<'d, D: Decider> Meter<'d, D> {
         ensures fed { OnOk result (self.new.state.fed ≡ self.old.state.fed + 1) }
         ensures size { length self.new.state.world.bots ≡ length self.old.state.world.bots }
         ensures differs { IfErr result (λ e. (e.place ≡ self.old.state.fed)
-            × IsNoStep (D.verdict self.old.decider) self.old.state.world entry.now
+            × IsNoStep full_entry (D.verdict self.old.decider) self.old.state.world entry.now
             × (self.new ≡ self.old)) }
         ensures decider { self.new.decider ≡ self.old.decider }
     {
-        match &mut self.found {
-            Some(found) => {
-                self.progress.show(entry.bot, found);
-                self.progress.feed(self.decider, entry, found)
-            }
-            None => {
-                let mut found = self.progress.found(entry.bot);
-                self.progress.feed(self.decider, entry, &mut found)
-            }
-        }
+        self.feed_in(entry)
     }
 
-    /// Goes on by an entry without old values, of one of the world's amoebots: by the entry that it tells. Differs tells that it is no step
-    /// from the world that was reached, with the number of entries fed; the meter is unchanged then. It takes no memory.
+    /// The same by an entry without old values: by the entry that it tells.
     pub fn follow(&mut self, plain: &PlainEntry) -> Result<(), Differs>
         requires there { plain.now.bot < length self.old.state.world.bots }
         requires few { self.old.state.fed + 1 < 2 ^ 32 }
-        ensures goes_on { OnOk result (GoesOnBy (D.verdict self.old.decider) plain.now self.old.state self.new.state) }
+        ensures goes_on { OnOk result (GoesOnIn plain_entry (D.verdict self.old.decider) plain.now self.old.state self.new.state) }
         ensures fed { OnOk result (self.new.state.fed ≡ self.old.state.fed + 1) }
         ensures size { length self.new.state.world.bots ≡ length self.old.state.world.bots }
         ensures differs { IfErr result (λ e. (e.place ≡ self.old.state.fed)
-            × IsNoPlainStep (D.verdict self.old.decider) self.old.state.world plain.now
+            × IsNoStep plain_entry (D.verdict self.old.decider) self.old.state.world plain.now
+            × (self.new ≡ self.old)) }
+        ensures decider { self.new.decider ≡ self.old.decider }
+    {
+        self.feed_in(plain)
+    }
+
+    /// The same by an entry in a form.
+    pub fn feed_in<E: EntryForm>(&mut self, told: &E) -> Result<(), Differs>
+        requires there { E.bot told.now < length self.old.state.world.bots }
+        requires few { self.old.state.fed + 1 < 2 ^ 32 }
+        ensures goes_on { OnOk result (GoesOnIn E.form (D.verdict self.old.decider) told.now self.old.state self.new.state) }
+        ensures fed { OnOk result (self.new.state.fed ≡ self.old.state.fed + 1) }
+        ensures size { length self.new.state.world.bots ≡ length self.old.state.world.bots }
+        ensures differs { IfErr result (λ e. (e.place ≡ self.old.state.fed)
+            × IsNoStep E.form (D.verdict self.old.decider) self.old.state.world told.now
             × (self.new ≡ self.old)) }
         ensures decider { self.new.decider ≡ self.old.decider }
     {
         match &mut self.found {
             Some(found) => {
-                self.progress.show(plain.bot, found);
-                self.progress.follow(self.decider, plain, found)
+                self.progress.show(told.bot(), found);
+                self.progress.feed(self.decider, told, found)
             }
             None => {
-                let mut found = self.progress.found(plain.bot);
-                self.progress.follow(self.decider, plain, &mut found)
+                let mut found = self.progress.found(told.bot());
+                self.progress.feed(self.decider, told, &mut found)
             }
         }
     }

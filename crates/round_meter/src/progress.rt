@@ -2,18 +2,16 @@
 ghost use Rattle.std.specs.Prelude.{◌≡◌, ◌+◌, [], ◌<◌, ◌^◌, length, IfOk, OnOk, IfErr};
 ghost use Rattle.std.specs.List.{All};
 ghost use Rattle.amoebot_state.specs.Zones.{shown};
-ghost use Rattle.serial_model.specs.Replays.{IsNoStep, IsNoPlainStep};
-ghost use Rattle.round_meter.specs.Meters.{GoesOnWith, GoesOnBy, IsMetered, StandsForRun, waiting_of};
+ghost use Rattle.serial_model.specs.Replays.{IsNoStep};
+ghost use Rattle.round_meter.specs.Meters.{GoesOnIn, IsMetered, StandsForRun, waiting_of};
 ghost use Rattle.round_meter.specs.Asking.{IsDecidedWith, IsEntered, asked_each, first_tallied};
 ghost use Rattle.round_meter.specs.Tallies.{with_standings};
 
 use crate::enabled::is_enabled;
 use crate::near::ids_near;
 use crate::tally::Tally;
-use amoebot_state::{
-    Decider, Entry, Found, NoMemory, Patch, PlainEntry, World, has_next, touches_zone,
-};
-use serial_model::{Differs, decides_on, told_on};
+use amoebot_state::{Decider, Found, NoMemory, Patch, World, has_next, touches_zone};
+use serial_model::{Differs, EntryForm, told_on};
 use std::alloc::Global;
 use std::marker::Model;
 
@@ -54,55 +52,29 @@ impl Progress {
         })
     }
 
-    /// Goes on by an entry whose amoebot is shown this. What others are shown takes its place.
-    pub(crate) fn feed<D: Decider>(
+    /// Goes on with an entry in a form, whose amoebot is shown this. What others are shown takes its place.
+    pub(crate) fn feed<D: Decider, E: EntryForm>(
         &mut self,
         decider: &D,
-        entry: &Entry,
+        told: &E,
         found: &mut Found,
     ) -> Result<(), Differs>
-        requires there { entry.now.bot < length self.old.world.bots }
+        requires there { E.bot told.now < length self.old.world.bots }
         requires few { self.old.fed + 1 < 2 ^ 32 }
-        requires shown { found.old ≡ shown self.old.world entry.now.bot }
+        requires shown { found.old ≡ shown self.old.world (E.bot told.now) }
         requires stands { StandsForRun (D.verdict decider.now) self.old }
-        ensures goes_on { OnOk result (GoesOnWith (D.verdict decider.now) entry.now self.old self.new) }
+        ensures goes_on { OnOk result (GoesOnIn E.form (D.verdict decider.now) told.now self.old self.new) }
         ensures stands { StandsForRun (D.verdict decider.now) self.new }
         ensures fed { OnOk result (self.new.fed ≡ self.old.fed + 1) }
         ensures size { length self.new.world.bots ≡ length self.old.world.bots }
         ensures differs { IfErr result (λ e. (e.place ≡ self.old.fed)
-            × IsNoStep (D.verdict decider.now) self.old.world entry.now
+            × IsNoStep E.form (D.verdict decider.now) self.old.world told.now
             × (self.new ≡ self.old)) }
     {
-        if !decides_on(decider, found, entry) {
-            return Err(Differs { place: self.fed });
-        }
-        self.enter(decider, entry.bot, &entry.patch, found);
-        Ok(())
-    }
-
-    /// The same for an entry without old values: by the entry that it tells.
-    pub(crate) fn follow<D: Decider>(
-        &mut self,
-        decider: &D,
-        plain: &PlainEntry,
-        found: &mut Found,
-    ) -> Result<(), Differs>
-        requires there { plain.now.bot < length self.old.world.bots }
-        requires few { self.old.fed + 1 < 2 ^ 32 }
-        requires shown { found.old ≡ shown self.old.world plain.now.bot }
-        requires stands { StandsForRun (D.verdict decider.now) self.old }
-        ensures goes_on { OnOk result (GoesOnBy (D.verdict decider.now) plain.now self.old self.new) }
-        ensures stands { StandsForRun (D.verdict decider.now) self.new }
-        ensures fed { OnOk result (self.new.fed ≡ self.old.fed + 1) }
-        ensures size { length self.new.world.bots ≡ length self.old.world.bots }
-        ensures differs { IfErr result (λ e. (e.place ≡ self.old.fed)
-            × IsNoPlainStep (D.verdict decider.now) self.old.world plain.now
-            × (self.new ≡ self.old)) }
-    {
-        let Some(change) = told_on(decider, found, plain) else {
+        let Some(change) = told_on(decider, found, told) else {
             return Err(Differs { place: self.fed });
         };
-        self.enter(decider, plain.bot, &change.patch, found);
+        self.enter(decider, told.bot(), &change.patch, found);
         Ok(())
     }
 

@@ -1,26 +1,37 @@
+ghost use Rattle.serial_model.specs.Laws.{FullIsItself, RunIsSteps, PlainStepIsUnique, PlainRunIsUnique};
 ghost use Rattle.serial_model.specs.Laws.{FirstNoStepIsUnique, RunHasOnlySteps, RunOrFirstNoStep, NoStepIsAnotherVerdict};
-ghost use Rattle.serial_model.specs.Laws.{PlainStepIsUnique, PlainRunIsRun, PlainRunIsUnique};
-ghost use Rattle.serial_model.specs.Laws.{FirstNoPlainStepIsUnique, NoPlainStepIsAnotherVerdict, PlainRunHasOnlySteps, PlainRunOrFirst};
+
+use crate::forms::EntryForm;
+
+/// Steps and runs of entries that are told in full are those of the model.
+pub fn full_is_itself()
+    ensures { FullIsItself }
+{}
+
+/// A run of entries in a form is steps of them, one after another.
+pub fn run_is_steps<E: EntryForm>()
+    ensures { RunIsSteps E.form }
+{}
 
 /// At most one place is the first that is no step.
-pub fn first_no_step_is_unique()
-    ensures { FirstNoStepIsUnique }
+pub fn first_no_step_is_unique<E: EntryForm>()
+    ensures { FirstNoStepIsUnique E.form }
 {}
 
 /// Entries that are a run have no place that is no step.
-pub fn run_has_only_steps()
-    ensures { RunHasOnlySteps }
+pub fn run_has_only_steps<E: EntryForm>()
+    ensures { RunHasOnlySteps E.form }
 {}
 
 /// Entries are a run, or have a first place that is no step.
-pub fn run_or_first_no_step()
-    ensures { RunOrFirstNoStep }
+pub fn run_or_first_no_step<E: EntryForm>()
+    ensures { RunOrFirstNoStep E.form }
 {}
 
-/// Take an entry of an amoebot of a valid configuration.
-/// It is no step exactly where the verdict on that amoebot is another than the entry's action, movement and patch.
-pub fn no_step_is_another_verdict()
-    ensures { NoStepIsAnotherVerdict }
+/// Take what is told of an amoebot of a valid configuration.
+/// It is no step exactly where the verdict on that amoebot is the change of no entry that is told so.
+pub fn no_step_is_another_verdict<E: EntryForm>()
+    ensures { NoStepIsAnotherVerdict E.form E.bot }
 {}
 
 /// A step is determined by its entry without old values.
@@ -28,33 +39,7 @@ pub fn plain_step_is_unique()
     ensures { PlainStepIsUnique }
 {}
 
-/// Entries without old values are a run exactly where they are those of a run's entries.
-pub fn plain_run_is_run()
-    ensures { PlainRunIsRun }
-{}
-
-/// They are those of one run at most.
+/// Entries without old values are those of one run at most.
 pub fn plain_run_is_unique()
     ensures { PlainRunIsUnique }
-{}
-
-/// At most one place is the first that is no step of an entry without old values.
-pub fn first_no_plain_step_is_unique()
-    ensures { FirstNoPlainStepIsUnique }
-{}
-
-/// Entries without old values that are a run have no place that is no step.
-pub fn plain_run_has_only_steps()
-    ensures { PlainRunHasOnlySteps }
-{}
-
-/// Entries without old values are a run, or have a first place that is no step.
-pub fn plain_run_or_first()
-    ensures { PlainRunOrFirst }
-{}
-
-/// Take an entry without old values, of an amoebot of a valid configuration.
-/// It is no step exactly where the verdict on that amoebot is the change of no entry that is this one apart from its old values.
-pub fn no_plain_step_is_another_verdict()
-    ensures { NoPlainStepIsAnotherVerdict }
 {}

@@ -4,20 +4,25 @@
 ghost use Rattle.std.specs.Prelude.{◌≡◌, ◌<◌, length, IfNone, IfSome};
 ghost use Rattle.amoebot_state.specs.SerialTurns.{SerialTurn};
 ghost use Rattle.amoebot_state.specs.Steps.{Step, plain_entry};
-ghost use Rattle.serial_model.specs.Replays.{IsNoPlainStep, IsToldBy, entry_for};
+ghost use Rattle.amoebot_state.specs.Zones.{shown};
+ghost use Rattle.serial_model.specs.Replays.{IsNoStep};
 
+mod forms;
 mod laws;
 mod replays;
 
 pub use amoebot_state::{Turned, serial_turn_is_unique};
 use amoebot_state::{Change, Decider, Entry, Found, PlainEntry, Verdict, World, has_next};
+pub use forms::EntryForm;
+use forms::entry_by;
 pub use laws::{
-    first_no_plain_step_is_unique, first_no_step_is_unique, no_plain_step_is_another_verdict,
-    no_step_is_another_verdict, plain_run_has_only_steps, plain_run_is_run, plain_run_is_unique,
-    plain_run_or_first, plain_step_is_unique, run_has_only_steps, run_or_first_no_step,
+    first_no_step_is_unique, full_is_itself, no_step_is_another_verdict, plain_run_is_unique,
+    plain_step_is_unique, run_has_only_steps, run_is_steps, run_or_first_no_step,
 };
-use replays::make_told_on;
-pub use replays::{Differs, decides_entry, decides_on, make_step, replay, replay_plain, told_on};
+use replays::make_step_on;
+pub use replays::{
+    Differs, decides_entry, make_step, make_step_in, replay, replay_in, replay_plain, told_on,
+};
 use std::marker::Model;
 
 /// A world that is changed one activation at a time.
@@ -63,58 +68,54 @@ impl Serial {
             Verdict::Failed(failure) => Turned::Failed(failure),
             Verdict::Change(change) => {
                 self.world.apply(&change.patch);
-                Turned::Done(Entry {
-                    caller,
-                    turn,
-                    bot,
-                    action: change.action,
-                    moved: change.moved,
-                    patch: change.patch,
-                })
+                Turned::Done(entry_by(caller, turn, bot, change))
             }
         }
     }
 
-    /// One turn whose entry is this one, apart from the old values of its patch, and whose amoebot is one of the world's: the whole
-    /// entry, if there is such a turn. Where there is none, the world stays.
+    /// One turn whose entry is this one, apart from the old values of its patch, and whose amoebot is one of the world's.
+    /// It answers the whole entry, if there is such a turn. Where there is none, the world stays.
     pub fn follow<D: Decider>(&mut self, decider: &D, plain: &PlainEntry) -> Option<Entry>
         requires { plain.now.bot < length self.old.bots }
         ensures told { IfSome result (λ e. plain_entry e ≡ plain.now) }
         ensures step { IfSome result (λ e. Step (D.verdict decider.now) self.old e self.new) }
-        ensures none { IfNone result (IsNoPlainStep (D.verdict decider.now) self.old plain.now) }
+        ensures none { IfNone result (IsNoStep plain_entry (D.verdict decider.now) self.old plain.now) }
         ensures stays { IfNone result (self.new ≡ self.old) }
         ensures size { length self.new.bots ≡ length self.old.bots }
     {
-        let Some(change) = self.make_told(decider, plain) else {
-            return None;
-        };
-        Some(Entry {
-            caller: plain.caller,
-            turn: plain.turn,
-            bot: plain.bot,
-            action: change.action,
-            moved: change.moved,
-            patch: change.patch,
-        })
+        self.follow_in(decider, plain)
     }
 
-    /// Makes the step of an entry without old values, if there is one: the change that was decided.
-    fn make_told<D: Decider>(&mut self, decider: &D, plain: &PlainEntry) -> Option<Change>
-        requires { plain.now.bot < length self.old.bots }
-        ensures told { IfSome result (λ change. IsToldBy plain.now change) }
-        ensures step { IfSome result (λ change. Step (D.verdict decider.now) self.old (entry_for plain.now change) self.new) }
-        ensures none { IfNone result (IsNoPlainStep (D.verdict decider.now) self.old plain.now) }
+    /// The same of an entry in a form.
+    pub fn follow_in<D: Decider, E: EntryForm>(&mut self, decider: &D, told: &E) -> Option<Entry>
+        requires { E.bot told.now < length self.old.bots }
+        ensures told { IfSome result (λ e. E.form e ≡ told.now) }
+        ensures step { IfSome result (λ e. Step (D.verdict decider.now) self.old e self.new) }
+        ensures none { IfNone result (IsNoStep E.form (D.verdict decider.now) self.old told.now) }
+        ensures stays { IfNone result (self.new ≡ self.old) }
+        ensures size { length self.new.bots ≡ length self.old.bots }
+    {
+        let change = self.make_step(decider, told)?;
+        Some(told.entry(change))
+    }
+
+    /// Makes the step of an entry in a form, if there is one: the change that was decided.
+    fn make_step<D: Decider, E: EntryForm>(&mut self, decider: &D, told: &E) -> Option<Change>
+        requires { E.bot told.now < length self.old.bots }
+        ensures told { IfSome result (λ change. E.form (E.entry told.now change) ≡ told.now) }
+        ensures step { IfSome result (λ change. Step (D.verdict decider.now) self.old (E.entry told.now change) self.new) }
+        ensures none { IfNone result (IsNoStep E.form (D.verdict decider.now) self.old told.now) }
         ensures stays { IfNone result (self.new ≡ self.old) }
         ensures size { length self.new.bots ≡ length self.old.bots }
     {
         match &mut self.found {
             Some(found) => {
-                self.world.show(plain.bot, found);
-                make_told_on(decider, &mut self.world, plain, found)
+                self.world.show(told.bot(), found);
+                make_step_on(decider, &mut self.world, told, found)
             }
             None => {
-                let found = self.world.found(plain.bot);
-                make_told_on(decider, &mut self.world, plain, &found)
+                let found = self.world.found(told.bot());
+                make_step_on(decider, &mut self.world, told, &found)
             }
         }
     }

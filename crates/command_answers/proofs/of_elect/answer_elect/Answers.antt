@@ -1,19 +1,17 @@
-use Rattle.std.proofs.Common.{◌<◌, List, Option, length, ap, sym, subst, ◌∙◌}
+use Rattle.std.proofs.Common.{◌≡◌, ◌<◌, List, Some, length, ap, sym, subst, ◌∙◌}
+use Rattle.amoebot_state.specs.declared.verdict.PlainEntry.{PlainEntry}
 use Rattle.std.specs.List.{All}
-use Rattle.std.specs.Prelude.{IfSome}
 use Rattle.std.proofs.lemmas.Bool.{false≢true}
 use Rattle.std.proofs.lemmas.Result.{IfOk-weaker}
-use Rattle.amoebot_state.specs.declared.verdict.Entry.{Entry}
-use Rattle.amoebot_state.specs.declared.verdict.PlainEntry.{PlainEntry}
 use Rattle.amoebot_state.specs.Configs.{Config}
-use Rattle.serial_model.specs.Replays.{AreCountable}
 use Rattle.election_law.specs.Elections.{IsErosion}
 use Rattle.election_law.specs.States.{ElectionState}
 use Rattle.shape_files.specs.Views.{contents}
 use Rattle.command_answers.specs.Answers.{refused_with}
-use Rattle.command_answers.specs.Told.{TellsElection, TellsJournal, TellsPlainElection}
+use Rattle.command_answers.specs.Told.{HasItsJournal, IsOfBots}
 use Rattle.command_answers.proofs.OwedTexts.{record_of}
 use Rattle.command_answers.proofs.ElectLemmas.{tells_journal, tells_no_erosion, tells_refusal}
+use Rattle.command_answers.proofs.RecordedLemmas.{in_full_form, in_plain_form}
 use Rattle.command_answers.proofs.of_elect.answer_elect.Goals as goal
 
 pub returns-then-not-is_erosion : goal.returns-then-not-is_erosion
@@ -24,21 +22,31 @@ returns-then-not-is_erosion c =
     false≢true (sym c.if-not-is_erosion.true ∙ c.is_erosion.ensures.1 (subst IsErosion (sym (c.program.ensures.program ∙ c.checked.ensures)) erodes)) in
     IfOk-weaker _ _ _ (λ answer is. tells_no_erosion a d answer other (is ∙ ap refused_with c.whole_document.ensures)) c.refuse.ensures
 
-pub elect-requires-clause-full : goal.elect-requires-clause-full
-elect-requires-clause-full c = subst (λ (w : Config). IfSome c.recorded_in-runner.result.entries (λ (es : List Entry). All (λ (e : Entry). e.bot < length w.bots) es × AreCountable es)) (sym (ap (λ (e : ElectionState). e.world) c.in-Ok.ensures.open)) c.recorded_in-runner.ensures.full
+pub elect-requires-in-Plain-clause-there : goal.elect-requires-in-Plain-clause-there
+elect-requires-in-Plain-clause-there c =
+    let bots = subst (IsOfBots (length c.recorded_in-runner.result.start.bots)) c.in-Plain.is c.recorded_in-runner.ensures.bots in
+    let world = sym (ap (λ (e : ElectionState). e.world) c.in-Ok.ensures.open) in
+    subst (λ (z : List PlainEntry × Config). All (λ (p : PlainEntry). p.bot < length z.1.bots) z.0) (λ i. (sym c.entries-in-Plain.ensures i, world i)) bots.0
 
-pub elect-requires-clause-told : goal.elect-requires-clause-told
-elect-requires-clause-told c = subst (λ (w : Config). IfSome c.recorded_in-runner.result.plain (λ (ps : List PlainEntry). All (λ (p : PlainEntry). p.bot < length w.bots) ps × AreCountable ps)) (sym (ap (λ (e : ElectionState). e.world) c.in-Ok.ensures.open)) c.recorded_in-runner.ensures.told
+pub returns-in-Full : goal.returns-in-Full
+returns-in-Full c =
+    let a = contents c.args.parts in
+    let r = c.recorded_in-runner in
+    let d = record_of a r.result.runner r.result.start r.result.last r.ensures.program r.ensures.start r.ensures.last in
+    let erodes = subst IsErosion (c.program.ensures.program ∙ c.checked.ensures) (c.is_erosion.ensures.0 c.if-not-is_erosion.false) in
+    let told = c.entries.result.now in
+    let its : a.entries ≡ Some told = subst (HasItsJournal a) c.in-Full.is r.ensures.journal ∙ ap Some (sym c.entries.ensures) in
+    IfOk-weaker _ _ _ (λ answer by. tells_journal a d told (in_full_form a d told its) answer erodes c.in-Ok.ensures.ready c.in-Ok.election c.in-Ok.ensures.open by) c.elect.ensures
 
 pub returns-in-Ok : goal.returns-in-Ok
 returns-in-Ok c =
     let a = contents c.args.parts in
-    let d = record_of a c.recorded_in-runner.result.runner c.recorded_in-runner.result.start c.recorded_in-runner.result.last c.recorded_in-runner.ensures.program c.recorded_in-runner.ensures.start c.recorded_in-runner.ensures.last in
+    let r = c.recorded_in-runner in
+    let d = record_of a r.result.runner r.result.start r.result.last r.ensures.program r.ensures.start r.ensures.last in
     let erodes = subst IsErosion (c.program.ensures.program ∙ c.checked.ensures) (c.is_erosion.ensures.0 c.if-not-is_erosion.false) in
-    let e = c.in-Ok.election in
-    IfOk-weaker _ _ _ (λ answer told. tells_journal a d answer c.replay_is_decided.ensures erodes c.in-Ok.ensures.ready e c.in-Ok.ensures.open
-    (subst (λ (o : Option (List Entry)). TellsJournal (TellsElection e.program e.world d.final) (TellsPlainElection e.program e.world d.final) o a.plain answer) (sym c.recorded_in-runner.ensures.entries)
-    (subst (λ (o : Option (List PlainEntry)). TellsJournal (TellsElection e.program e.world d.final) (TellsPlainElection e.program e.world d.final) c.recorded_in-runner.result.entries o answer) (sym c.recorded_in-runner.ensures.plain) told))) c.elect.ensures
+    let told = c.entries-in-Plain.result.now in
+    let its : a.plain ≡ Some told = subst (HasItsJournal a) c.in-Plain.is r.ensures.journal ∙ ap Some (sym c.entries-in-Plain.ensures) in
+    IfOk-weaker _ _ _ (λ answer by. tells_journal a d told (in_plain_form a d told its) answer erodes c.in-Ok.ensures.ready c.in-Ok.election c.in-Ok.ensures.open by) c.elect-in-Plain.ensures
 
 pub returns : goal.returns
 returns c =

@@ -1,18 +1,26 @@
-use Rattle.std.proofs.Common.{Some, ap, sym, ◌∙◌}
+use Rattle.std.proofs.Common.{◌≡◌, Some, ap, sym, subst, ◌∙◌}
 use Rattle.std.proofs.lemmas.Result.{IfOk-weaker}
 use Rattle.shape_files.specs.Views.{contents}
+use Rattle.command_answers.specs.Told.{HasItsJournal}
 use Rattle.command_answers.proofs.OwedTexts.{record_of}
-use Rattle.command_answers.proofs.Told.{renewed_full, renewed_plain}
+use Rattle.command_answers.proofs.RecordedLemmas.{in_full_form, in_plain_form}
+use Rattle.command_answers.proofs.Told.{renewed}
 use Rattle.command_answers.proofs.of_renew.answer_renew.Goals as goal
 
-pub returns-in-Some : goal.returns-in-Some
-returns-in-Some c =
+pub returns-in-Full : goal.returns-in-Full
+returns-in-Full c =
     let a = contents c.args.parts in
-    let d = record_of a c.recorded_in-runner.result.runner c.recorded_in-runner.result.start c.recorded_in-runner.result.last c.recorded_in-runner.ensures.program c.recorded_in-runner.ensures.start c.recorded_in-runner.ensures.last in
-    IfOk-weaker _ _ _ (λ answer told. renewed_full a d answer c.entries.result.now (c.recorded_in-runner.ensures.entries ∙ c.in-Some.is ∙ ap Some (sym c.entries.ensures)) told) c.renew_full.ensures
+    let r = c.recorded_in-runner in
+    let d = record_of a r.result.runner r.result.start r.result.last r.ensures.program r.ensures.start r.ensures.last in
+    let told = c.entries.result.now in
+    let its : a.entries ≡ Some told = subst (HasItsJournal a) c.in-Full.is r.ensures.journal ∙ ap Some (sym c.entries.ensures) in
+    IfOk-weaker _ _ _ (renewed a d told (in_full_form a d told its)) c.tell_renewed.ensures
 
 pub returns : goal.returns
 returns c =
     let a = contents c.args.parts in
-    let d = record_of a c.recorded_in-runner.result.runner c.recorded_in-runner.result.start c.recorded_in-runner.result.last c.recorded_in-runner.ensures.program c.recorded_in-runner.ensures.start c.recorded_in-runner.ensures.last in
-    IfOk-weaker _ _ _ (λ answer told. renewed_plain a d answer c.unwrap.result (c.recorded_in-runner.ensures.plain ∙ c.unwrap.ensures) told) c.renew_plain.ensures
+    let r = c.recorded_in-runner in
+    let d = record_of a r.result.runner r.result.start r.result.last r.ensures.program r.ensures.start r.ensures.last in
+    let told = c.entries-in-Plain.result.now in
+    let its : a.plain ≡ Some told = subst (HasItsJournal a) c.in-Plain.is r.ensures.journal ∙ ap Some (sym c.entries-in-Plain.ensures) in
+    IfOk-weaker _ _ _ (renewed a d told (in_plain_form a d told its)) c.tell_renewed-in-Plain.ensures

@@ -3,19 +3,20 @@ use Rattle.std.proofs.lemmas.Result.{IfOk-weaker}
 use Rattle.action_eval.proofs.SharedRunner.{runner_sync}
 use Rattle.command_answers.specs.declared.answer.Answer.{Answer}
 use Rattle.command_answers.specs.declared.status.Status.TheVariants as status
-use Rattle.command_answers.specs.Counts.{in_rounds, with_difference}
+use Rattle.command_answers.specs.Told.{of_agreeing, of_differing}
 use Rattle.command_answers.proofs.of_rounds.tell_count.Goals as goal
 
 pub count_rounds-requires-sync-D : goal.count_rounds-requires-sync-D
-count_rounds-requires-sync-D c κs = record { shared = runner_sync.shared }
+count_rounds-requires-sync-D g c κs outlives = record { shared = runner_sync.shared }
 
 pub returns-in_ok-text-in-Ok : goal.returns-in_ok-text-in-Ok
-returns-in_ok-text-in-Ok c =
+returns-in_ok-text-in-Ok g c =
+    let n = c.in-Ok.count in
     let found = rw c.in-Ok.is at c.in_ok-count.ensures in
     let with : List ℕ → Answer = λ text. record { status = status.Done; report = None; text = text } in
-    in_rounds c.in-Ok.count.rounds c.in-Ok.count.waiting found (c.done.ensures ∙ ap with c.in_ok-text-in-Ok.ensures)
+    of_agreeing found.source found.tells found.holds.agrees (record { rounds = n.rounds; waiting = n.waiting; counted = found.holds.counted; text = c.done.ensures ∙ ap with c.in_ok-text-in-Ok.ensures })
 
 pub returns-in-Err : goal.returns-in-Err
-returns-in-Err c =
+returns-in-Err g c =
     let found = rw c.in-Err.is at c.in_ok-count.ensures in
-    IfOk-weaker _ _ _ (λ answer is. with_difference c.in-Err.differs.place found is) c.differ.ensures
+    IfOk-weaker _ _ _ (λ answer is. of_differing c.in-Err.differs.place found is) c.differ.ensures

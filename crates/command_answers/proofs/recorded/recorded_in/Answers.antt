@@ -1,16 +1,19 @@
-use Rattle.std.proofs.Common.{Some, ap, sym, ◌∙◌}
+use Rattle.std.proofs.Common.{Some, ap, length, sym, subst, ◌∙◌}
 use Rattle.shape_files.specs.Views.{contents}
-use Rattle.command_answers.proofs.RecordedLemmas.{full_there, told_there, plain_there}
+use Rattle.command_answers.specs.Told.{IsOfBots}
+use Rattle.command_answers.proofs.RecordedLemmas.{full_there, plain_there}
+use Rattle.command_answers.proofs.recorded.recorded_in.Goals.{in-Some+in-Some-1, in-Some+in-None-1, in-None}
 use Rattle.command_answers.proofs.recorded.recorded_in.Goals as goal
 
 pub returns-clause-program : goal.returns-clause-program
 returns-clause-program c = c.unwrap.ensures ∙ ap Some (sym c.new-runner.ensures)
 
-pub returns-clause-full : goal.returns-clause-full
-returns-clause-full c = full_there (contents c.args.parts) c.unwrap-start.result c.requires.together c.unwrap-start.ensures
-
-pub returns-clause-told : goal.returns-clause-told
-returns-clause-told c = told_there (contents c.args.parts) c.unwrap-start.result c.requires.together c.unwrap-start.ensures
-
-pub returns-clause-one : goal.returns-clause-one
-returns-clause-one c = plain_there (contents c.args.parts) c.requires.sections.2
+pub returns-clause-bots : goal.returns-clause-bots
+returns-clause-bots c =
+    let a = contents c.args.parts in
+    let start = c.unwrap-start.result in
+    elim c.match-entries.branch [
+      | in-Some+in-Some-1 w ↦ subst (IsOfBots (length start.bots)) (sym w.journal-is) (full_there a start _ c.requires.together c.unwrap-start.ensures w.in-Some.is)
+      | in-Some+in-None-1 w ↦ subst (IsOfBots (length start.bots)) (sym w.journal-is) (full_there a start _ c.requires.together c.unwrap-start.ensures w.in-Some.is)
+      | in-None w ↦ subst (IsOfBots (length start.bots)) (sym w.journal-is) (plain_there a start _ c.requires.together c.unwrap-start.ensures w.unwrap-in-None.ensures)
+    ]

@@ -1,37 +1,36 @@
-use Rattle.std.proofs.Common.{◌≡◌, ◌++◌, ◌∷◌, [], length, take, arith, sym, ◌∙◌, subst}
+use Rattle.std.proofs.Common.{◌≡◌, length, arith, sym, ◌∙◌, subst}
 use Rattle.std.proofs.lemmas.Bool.{false≢true}
 use Rattle.serial_model.specs.Replays.{IsNoStep}
-use Rattle.round_meter.specs.Meters.{IsMetered}
-use Rattle.command_runs.proofs.FedMeters.{fed_all, fed_elsewhere, fed_more, stops_there}
+use Rattle.round_meter.specs.Meters.{GoesOnIn}
+use Rattle.command_runs.specs.Replay.{at_end}
+use Rattle.command_runs.proofs.ToldEntries.{fed_all, fed_more, stops_there, told_all}
 use Rattle.command_runs.proofs.counting.count_rounds.Goals as goal
 
 pub returns-in-Err : goal.returns-in-Err
 returns-in-Err g c =
-    let world = c.loop-entry.meter.state.world in
-    let none = subst (λ d. IsNoStep (g.D.Decider.verdict d) world c.entry-item.result) c.loop-entry.invariant.decider c.in-Err.ensures.differs.1 in
-    stops_there (g.D.Decider.verdict c.args.decider.now) c.args.start c.args.entries.now c.loop-entry.meter.state c.args.last.now c.loop-entry.entry-index c.in-Err.differs.place c.entry-item.result c.loop-entry-test.true c.entry-item.is c.loop-entry.invariant.metered none c.in-Err.ensures.differs.0
+    let world = c.loop-told.meter.state.world in
+    let none = subst (λ d. IsNoStep g.E.EntryForm.form (g.D.Decider.verdict d) world c.told-item.result) c.loop-told.invariant.decider c.in-Err.ensures.differs.1 in
+    stops_there g.E.EntryForm.form c.args.entries.now (g.D.Decider.verdict c.args.decider.now) c.args.start c.args.last.now c.loop-told.meter.state c.told-item.result c.loop-told.told-index c.in-Err.differs.place c.loop-told-test.true c.told-item.is c.loop-told.invariant.metered none c.in-Err.ensures.differs.0
 
-pub loop-entry-preserved : goal.loop-entry-preserved
-loop-entry-preserved g c =
-    let e = c.entry-item.result in
-    let before = take c.loop-entry.entry-index c.args.entries.now in
-    let same = c.loop-entry.invariant.decider in
-    let metered = subst (λ d. IsMetered (g.D.Decider.verdict d) c.args.start before c.loop-entry.meter.state) (sym same) c.loop-entry.invariant.metered in
-    let fed = subst (λ d. IsMetered (g.D.Decider.verdict d) c.args.start (before ++ e ∷ []) c.feed.new.self.state) same (c.in-Ok.ensures.goes_on.metered c.args.start before metered) in
+pub loop-told-preserved : goal.loop-told-preserved
+loop-told-preserved g c =
+    let same = c.loop-told.invariant.decider in
+    let on = subst (λ d. GoesOnIn g.E.EntryForm.form (g.D.Decider.verdict d) c.told-item.result c.loop-told.meter.state c.feed_in.new.self.state) same c.in-Ok.ensures.goes_on in
     record {
-      metered = fed_more (g.D.Decider.verdict c.args.decider.now) c.args.start c.args.entries.now c.feed.new.self.state c.loop-entry.entry-index e c.loop-entry-test.true c.entry-item.is fed;
+      metered = fed_more g.E.EntryForm.form c.args.entries.now (g.D.Decider.verdict c.args.decider.now) c.args.start c.loop-told.meter.state c.feed_in.new.self.state c.told-item.result c.loop-told.told-index c.loop-told-test.true c.told-item.is c.loop-told.invariant.metered on;
       decider = c.in-Ok.ensures.decider ∙ same;
-      size = c.in-Ok.ensures.size ∙ c.loop-entry.invariant.size;
+      size = c.in-Ok.ensures.size ∙ c.loop-told.invariant.size;
     }
 
 pub returns-then-same : goal.returns-then-same
 returns-then-same g c =
-    let end : c.loop-entry.entry-index ≡ length c.args.entries.now = omega arith in
-    fed_all (g.D.Decider.verdict c.args.decider.now) c.args.start c.args.entries.now c.loop-entry.meter.state c.loop-entry.entry-index end c.loop-entry.invariant.metered c.meter_tells_rounds.ensures c.args.last.now c.rounds.result c.waiting.result
-    (sym c.world.ensures ∙ c.same.ensures.0 c.if-same.true) c.rounds.ensures c.waiting.ensures
+    let end : c.loop-told.told-index ≡ length c.args.entries.now = omega arith in
+    let all = told_all g.E.EntryForm.form c.args.entries.now _ c.loop-told.told-index end c.loop-told.invariant.metered in
+    fed_all g.E.EntryForm.form c.args.entries.now c.meter_tells_rounds.ensures (g.D.Decider.verdict c.args.decider.now) c.args.start c.args.last.now c.loop-told.meter.state c.rounds.result c.waiting.result all (sym c.world.ensures ∙ c.same.ensures.0 c.if-same.true) c.rounds.ensures c.waiting.ensures
 
 pub returns : goal.returns
 returns g c =
-    let end : c.loop-entry.entry-index ≡ length c.args.entries.now = omega arith in
-    fed_elsewhere (g.D.Decider.verdict c.args.decider.now) c.args.start c.args.entries.now c.loop-entry.meter.state c.loop-entry.entry-index end c.loop-entry.invariant.metered c.args.last.now
+    let end : c.loop-told.told-index ≡ length c.args.entries.now = omega arith in
+    let all = told_all g.E.EntryForm.form c.args.entries.now _ c.loop-told.told-index end c.loop-told.invariant.metered in
+    at_end c.loop-told.meter.state.world (record { source = all.source; tells = all.tells; holds = all.holds.run })
     (λ same. false≢true (sym c.if-same.false ∙ c.same.ensures.1 (c.world.ensures ∙ same)))

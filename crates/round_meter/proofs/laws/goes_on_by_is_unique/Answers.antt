@@ -1,5 +1,0 @@
-use Rattle.round_meter.proofs.TellingLemmas.{goes_on_by_is_unique}
-use Rattle.round_meter.proofs.laws.goes_on_by_is_unique.Goals as goal
-
-pub returns : goal.returns
-returns c = goes_on_by_is_unique c.plain_step_is_unique.ensures

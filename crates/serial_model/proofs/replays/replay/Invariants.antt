@@ -1,9 +1,0 @@
-use Rattle.std.proofs.Common.{◌≡◌, length, take}
-use Rattle.amoebot_state.specs.Steps.{Run}
-use Rattle.serial_model.proofs.replays.replay.Given as goal
-
-abbrev pub invariant-loop-place : goal.invariant-loop-place
-invariant-loop-place g l = record {
-  run : Run (g.D.Decider.verdict l.decider) l.fn.start (take l.place l.entries) l.world;
-  size : length l.world.bots ≡ length l.fn.start.bots;
-}
