@@ -135,11 +135,12 @@ pub record Written : Type 0 where
   pub place : ℕ
   pub entry : WrittenEntry
 
+-- with these numbers, this movement and these cells
 abbrev pub entry_with : ℕ → ℕ → ℕ → ℕ → Moved → List WrittenChange → WrittenEntry
 entry_with caller turn bot action moved changes =
     record { caller = caller; turn = turn; bot = bot; action = action; moved = moved; changes = changes }
 
--- the same with other cells
+-- the entry with other cells
 abbrev pub with_changes : WrittenEntry → List WrittenChange → WrittenEntry
 with_changes w changes = record w { changes = changes }
 
@@ -237,7 +238,7 @@ IsJournal = IsJournalOf true entry_by
 
 -- ---- without old values
 
--- the same without them
+-- the entry, less its old values
 abbrev pub plain_by : WrittenEntry → PlainEntry
 plain_by w = plain_entry (entry_by w)
 
