@@ -24,11 +24,11 @@ use Rattle.amoebot_state.specs.declared.verdict.Entry.{Entry}
 use Rattle.amoebot_state.specs.declared.verdict.PlainEntry.{PlainEntry}
 use Rattle.amoebot_state.specs.declared.verdict.Moved.{Moved}
 use Rattle.amoebot_state.specs.declared.verdict.Moved.TheVariants as moved
-use Rattle.amoebot_state.specs.Pairs.{Pairs, Triples}
+use Rattle.amoebot_state.specs.Pairs.{Pairs, Triples, plain_triple}
 use Rattle.amoebot_state.specs.Ports.{end_word}
 use Rattle.claim_core.specs.Limits.{most_turns}
 use Rattle.node_text.specs.Parts.{word, is_end, one_more, IsWord}
-use Rattle.journal_text.specs.Journals.{IsPortBehind, IsMoved, IsCellText, IsValueOf, IsOldValue, WrittenChange, written_change, IsPair, Numbers, numbers_of, AreNumbers, WrittenEntry, Written, written_entry, IsEntryWord, IsWrittenEntry, ids_of_name, ids_of_value, ids_of_old, ids_of_change, named_ids, is_known, entry_fault, IsEntryBy, AreEntriesBy, IsJournalOf, entry_by, IsJournal, plain_by, IsPlainJournal}
+use Rattle.journal_text.specs.Journals.{IsPortBehind, IsMoved, IsCellText, IsValueOf, IsOldValue, WrittenChange, written_change, IsPair, Numbers, numbers_of, AreNumbers, WrittenEntry, Written, written_entry, IsEntryWord, IsWrittenEntry, ids_of_name, ids_of_value, ids_of_old, ids_of_change, named_ids, is_known, entry_fault, IsEntryBy, AreEntriesBy, IsJournalOf, full_change, entry_by, IsJournal, plain_by, IsPlainJournal}
 use Rattle.node_text.specs.PartTexts.{node_words, port_words, bot_words}
 use Rattle.journal_text.specs.Texts.{cell_words, value_words, old_words, change_words, moved_words, entry_numbers, entry_words, written_lines, change_in_full, written_full, change_of_pair, written_plain}
 use Rattle.node_text.specs.PartLimits.{HasCoordinates}
@@ -293,7 +293,10 @@ module _ (bots actions vars : ℕ) (few_bots : bots < 2 ^ 16) (few_actions : act
   no_old_value e = All-map (λ (t : WrittenChange). is_some t.1 ≡ false) change_of_pair e.patch (λ k d inside. refl)
 
   plain_again : (e : PlainEntry) → plain_by (written_plain e) ≡ e
-  plain_again e = ap (λ (ps : Pairs). record { caller = e.caller; turn = e.turn; bot = e.bot; action = e.action; moved = e.moved; patch = ps }) (map-map _ _ e.patch ∙ map-id e.patch)
+  plain_again e =
+      ap (λ (ps : Pairs). record e { patch = ps })
+      (ap (map plain_triple) (map-map full_change change_of_pair e.patch)
+      ∙ map-map plain_triple (λ p. full_change (change_of_pair p)) e.patch ∙ map-id e.patch)
 
   pub plain_journal_lines : (es : List PlainEntry) → length es ≤ most_turns → All (λ e. KeepsLimits bots actions vars (written_plain e)) es → RereadsLines (IsPlainJournal bots actions vars) (Is es) (the_section vars (map written_plain es))
   plain_journal_lines = lines_read_back false plain_by written_plain plain_again no_old_value

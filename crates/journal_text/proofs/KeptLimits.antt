@@ -9,10 +9,10 @@ use Rattle.std.proofs.lemmas.List.Elements.{All-nil, All-cons, All-head, All-tai
 use Rattle.std.proofs.lemmas.Simd.{map-map}
 use Rattle.amoebot_state.specs.declared.verdict.Entry.{Entry}
 use Rattle.amoebot_state.specs.Limits.{most_pairs}
-use Rattle.amoebot_state.specs.Pairs.{Triples, plain_triple}
+use Rattle.amoebot_state.specs.Pairs.{CellChange, Triples, plain_triple}
 use Rattle.amoebot_state.specs.Steps.{plain_entry}
 use Rattle.journal_text.specs.Limits.{last_caller, last_turn}
-use Rattle.journal_text.specs.Journals.{WrittenChange, WrittenEntry, ids_of_name, ids_of_old, ids_of_value, ids_of_change, is_known, full_change, entry_by, plain_change, plain_by}
+use Rattle.journal_text.specs.Journals.{WrittenChange, WrittenEntry, ids_of_name, ids_of_value, ids_of_change, is_known, full_change, entry_by, plain_by}
 use Rattle.journal_text.specs.Texts.{change_in_full, written_full, change_of_pair, written_plain}
 use Rattle.journal_text.specs.Rereading.{IsWritableChange, PlainKeepsLimits}
 
@@ -43,8 +43,11 @@ module _ (bots : ℕ) where
   stay_in_full (c, None, x) e = let p = parts_of (ids_of_name c) [] (ids_of_value x) e in of_parts (ids_of_name c) (ids_of_value x) (ids_of_value x) p.0 p.2 p.2
   stay_in_full (c, Some o, x) e = e
 
-  stay_plain : (t : WrittenChange) → are_there (ids_of_change t) ≡ true → are_there (ids_of_change (change_of_pair (plain_change t))) ≡ true
-  stay_plain t e = let p = parts_of (ids_of_name t.0) (ids_of_old t.1) (ids_of_value t.2) e in of_parts (ids_of_name t.0) [] (ids_of_value t.2) p.0 refl p.2
+  stay_plain : (t : CellChange) → are_there (ids_of_change (change_in_full t)) ≡ true
+      → are_there (ids_of_change (change_of_pair (plain_triple t))) ≡ true
+  stay_plain t e =
+      let p = parts_of (ids_of_name t.0) (ids_of_value t.1) (ids_of_value t.2) e in
+      of_parts (ids_of_name t.0) [] (ids_of_value t.2) p.0 refl p.2
 
   both_stay : (n m x y : Bool) → (x ≡ true → y ≡ true) → (n && (m && x)) ≡ true → (n && (m && y)) ≡ true
   both_stay true true x y h e = h e
@@ -62,18 +65,16 @@ module _ (bots : ℕ) where
         ap (λ ts. are_there (flat_map ids_of_change ts)) (map-map change_in_full full_change w.changes)
         ∙ all_stay (λ t. t) (λ t. change_in_full (full_change t)) stay_in_full w.changes (ap (λ ts. are_there (flat_map ids_of_change ts)) (map-id w.changes) ∙ e))
 
-    pub known_plain : (w : WrittenEntry) → is_known bots actions w ≡ true → is_known bots actions (written_plain (plain_by w)) ≡ true
-    known_plain w =
-        both_stay (numbers_known w) (nat_lt w.bot bots) _ _ (λ e.
-        ap (λ ts. are_there (flat_map ids_of_change ts)) (map-map change_of_pair plain_change w.changes)
-        ∙ all_stay (λ t. t) (λ t. change_of_pair (plain_change t)) stay_plain w.changes (ap (λ ts. are_there (flat_map ids_of_change ts)) (map-id w.changes) ∙ e))
-
     -- an entry without its old values
     pub known_without : (e : Entry) → is_known bots actions (written_full e) ≡ true → is_known bots actions (written_plain (plain_entry e)) ≡ true
     known_without e =
         both_stay (numbers_known (written_full e)) (nat_lt e.bot bots) _ _ (λ s.
         ap (λ ts. are_there (flat_map ids_of_change ts)) (map-map change_of_pair plain_triple e.patch)
-        ∙ all_stay change_in_full (λ t. change_of_pair (plain_triple t)) (λ t. stay_plain (change_in_full t)) e.patch s)
+        ∙ all_stay change_in_full (λ t. change_of_pair (plain_triple t)) stay_plain e.patch s)
+
+    pub known_plain : (w : WrittenEntry) → is_known bots actions w ≡ true
+        → is_known bots actions (written_plain (plain_by w)) ≡ true
+    known_plain w known = known_without (entry_by w) (known_full w known)
 
 module _ (vars : ℕ) where
   writable_without : (ts : Triples) → All (IsWritableChange vars) (map change_in_full ts) → All (IsWritableChange vars) (map change_of_pair (map plain_triple ts))

@@ -10,7 +10,7 @@ use Rattle.std.proofs.lemmas.List.Folds.{list_all-append}
 use Rattle.std.proofs.lemmas.Option.{slice_get_within, get_or_from_slice_get}
 use Rattle.journal_text.specs.declared.journal.WrittenPair.{WrittenPair}
 use Rattle.text_tokens.proofs.NextLines.{take_next}
-use Rattle.journal_text.specs.Journals.{WrittenChange, ids_of_change}
+use Rattle.journal_text.specs.Journals.{ids_of_change}
 use Rattle.journal_text.specs.Views as view
 
 module _ (bots : ℕ) where
@@ -45,10 +45,10 @@ module _ (bots : ℕ) where
   all_there_next ps i p at before e =
       ap all_there (take_next ps i p at) ∙ all_there-append (take i ps) (p ∷ []) ∙ ap (λ b. b && all_there (p ∷ [])) before ∙ one_there p ∙ e
 
--- what is made of pairs, with that of one more
-pub made_next : {X : Type 0} (f : WrittenChange → X) (ps : List WrittenPair) (i : ℕ) (p : WrittenPair) → slice_get ps i ≡ Some p → map f (map view.pair (take (i + 1) ps)) ≡ map f (map view.pair (take i ps)) ++ f (view.pair p) ∷ []
-made_next f ps i p at =
-    ap (λ qs. map f (map view.pair qs)) (take_next ps i p at) ∙ ap (map f) (map-append view.pair (take i ps) (p ∷ [])) ∙ map-append f (map view.pair (take i ps)) (view.pair p ∷ [])
+-- pairs, with one more
+pub pairs_next : (ps : List WrittenPair) (i : ℕ) (p : WrittenPair) → slice_get ps i ≡ Some p
+    → map view.pair (take (i + 1) ps) ≡ map view.pair (take i ps) ++ view.pair p ∷ []
+pairs_next ps i p at = ap (map view.pair) (take_next ps i p at) ∙ map-append view.pair (take i ps) (p ∷ [])
 
 -- a test that gave something was true, and gave that
 pub gave_some : {X : Type 0} (b : Bool) (x y : X) (r : Option X) → r ≡ (if b then Some x else None) → r ≡ Some y → (b ≡ true) × (x ≡ y)

@@ -2,6 +2,7 @@ pub mod JournalLaws
 pub mod FailureWords
 pub mod TurnLaws
 pub mod KnownBots
+pub mod MadeEntries
 pub mod JournalsReread
 pub mod WrittenLines
 pub mod OldValues

@@ -30,6 +30,7 @@ use Rattle.amoebot_state.specs.declared.verdict.Moved.{Moved}
 use Rattle.amoebot_state.specs.declared.verdict.Moved.TheVariants as moved
 use Rattle.amoebot_state.specs.Limits.{most_pairs}
 use Rattle.amoebot_state.specs.Pairs.{CellChange}
+use Rattle.amoebot_state.specs.Steps.{plain_entry}
 use Rattle.claim_core.specs.Limits.{most_turns}
 use Rattle.journal_text.specs.Limits.{last_caller, last_turn}
 use Rattle.node_text.specs.Parts.{word, is_end, past_most, one_more, IsWord, Means, IsNumber, IsNode, IsEnd, IsPortText, IsBotText}
@@ -134,19 +135,21 @@ pub record Written : Type 0 where
   pub place : ℕ
   pub entry : WrittenEntry
 
+-- with these numbers, this movement and these cells
+abbrev pub entry_with : ℕ → ℕ → ℕ → ℕ → Moved → List WrittenChange → WrittenEntry
+entry_with caller turn bot action moved changes =
+    record { caller = caller; turn = turn; bot = bot; action = action; moved = moved; changes = changes }
+
+-- the entry with other cells
+abbrev pub with_changes : WrittenEntry → List WrittenChange → WrittenEntry
+with_changes w changes = record w { changes = changes }
+
 abbrev pub written_entry : ℕ → Numbers → Moved → List WrittenChange → Written
 written_entry line n moved changes =
     record {
       line = line;
       place = n.place;
-      entry = record {
-        caller = n.caller;
-        turn = n.turn;
-        bot = n.bot;
-        action = n.action;
-        moved = moved;
-        changes = changes;
-      };
+      entry = entry_with n.caller n.turn n.bot n.action moved changes;
     }
 
 -- one entry too many, behind so many
@@ -235,19 +238,9 @@ IsJournal = IsJournalOf true entry_by
 
 -- ---- without old values
 
-abbrev pub plain_change : WrittenChange → CellName × Cell
-plain_change t = (t.0, t.2)
-
+-- the entry, less its old values
 abbrev pub plain_by : WrittenEntry → PlainEntry
-plain_by w =
-    record {
-      caller = w.caller;
-      turn = w.turn;
-      bot = w.bot;
-      action = w.action;
-      moved = w.moved;
-      patch = map plain_change w.changes;
-    }
+plain_by w = plain_entry (entry_by w)
 
 -- that of versions 1 and 2
 abbrev pub IsPlainJournal : ℕ → ℕ → ℕ → Lang (List PlainEntry)

@@ -2,12 +2,12 @@
 use Rattle.std.specs.Prelude.{◌≡◌, ◌≢◌, ◌<◌, ◌≤◌, ◌^◌, ℕ, true, false, List, length, IfSome, Ok}
 use Rattle.std.specs.List.{All}
 use Rattle.text_tokens.specs.Cursor.{IsShort}
+use Rattle.text_tokens.specs.Grammar.{Lang}
 use Rattle.amoebot_state.specs.declared.cell.CellName.{CellName}
 use Rattle.amoebot_state.specs.declared.cell.CellName.TheVariants as name
 use Rattle.amoebot_state.specs.declared.cell.Cell.{Cell}
 use Rattle.amoebot_state.specs.declared.cell.Cell.TheVariants as cell
 use Rattle.amoebot_state.specs.declared.verdict.Entry.{Entry}
-use Rattle.amoebot_state.specs.declared.verdict.PlainEntry.{PlainEntry}
 use Rattle.amoebot_state.specs.declared.verdict.Failure.{Failure}
 use Rattle.amoebot_state.specs.declared.verdict.Failure.TheVariants as failure
 use Rattle.amoebot_state.specs.declared.verdict.Moved.{Moved}
@@ -21,7 +21,7 @@ use Rattle.claim_core.specs.Turns.{MarkLists}
 use Rattle.journal_text.specs.Turns.{IsTurns}
 use Rattle.journal_text.specs.Journals.{WrittenChange, WrittenEntry, is_known, IsJournal, IsPlainJournal}
 use Rattle.text_tokens.specs.Inputs.{Says}
-use Rattle.journal_text.specs.Texts.{written_full, written_plain, journal_text, plain_text, turns_text}
+use Rattle.journal_text.specs.Texts.{text_by, written_full, written_plain, turns_text}
 use Rattle.node_text.specs.Parts.{may_have_walls}
 use Rattle.node_text.specs.PartLimits.{HasCoordinates, HasLimits}
 
@@ -50,27 +50,24 @@ pub record KeepsLimits (bots actions vars : ℕ) (w : WrittenEntry) : Type 0 whe
   pub few : length w.changes ≤ most_pairs
   pub pairs : All (IsWritableChange vars) w.changes
 
--- such entries, at most so many, are read back from their text, in a world of so many amoebots, with a program of so many actions
-abbrev pub JournalsReadBack : Type 0
-JournalsReadBack =
-    (bots actions vars : ℕ) (entries : List Entry)
+-- Such entries, at most so many, are read back from their text, in a world of so many amoebots,
+-- with a program of so many actions.
+abbrev pub AreReadBack : {E : Type 0} → (E → WrittenEntry) → (ℕ → ℕ → ℕ → Lang (List E)) → Type 0
+AreReadBack {E} written P =
+    (bots actions vars : ℕ) (entries : List E)
     → bots < 2 ^ 16
     → actions < 2 ^ 8
     → vars ≤ most_vars
     → length entries ≤ most_turns
-    → All (λ e. KeepsLimits bots actions vars (written_full e)) entries
-    → Says (IsJournal bots actions vars) (journal_text vars entries) (Ok entries)
+    → All (λ e. KeepsLimits bots actions vars (written e)) entries
+    → Says (P bots actions vars) (text_by written vars entries) (Ok entries)
 
--- so are those without old values
+-- with old values, and without them
+abbrev pub JournalsReadBack : Type 0
+JournalsReadBack = AreReadBack written_full IsJournal
+
 abbrev pub PlainJournalsReadBack : Type 0
-PlainJournalsReadBack =
-    (bots actions vars : ℕ) (entries : List PlainEntry)
-    → bots < 2 ^ 16
-    → actions < 2 ^ 8
-    → vars ≤ most_vars
-    → length entries ≤ most_turns
-    → All (λ e. KeepsLimits bots actions vars (written_plain e)) entries
-    → Says (IsPlainJournal bots actions vars) (plain_text vars entries) (Ok entries)
+PlainJournalsReadBack = AreReadBack written_plain IsPlainJournal
 
 -- an entry that breaks no limit breaks none without its old values
 abbrev pub PlainKeepsLimits : Type 0

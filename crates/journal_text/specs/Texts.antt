@@ -22,7 +22,7 @@ use Rattle.claim_core.specs.declared.marks.Mark.TheVariants as mark
 use Rattle.claim_core.specs.Turns.{MarkLists}
 use Rattle.node_text.specs.Parts.{has_old_values}
 use Rattle.node_text.specs.PartTexts.{node_words, port_words, bot_words}
-use Rattle.journal_text.specs.Journals.{WrittenChange, WrittenEntry}
+use Rattle.journal_text.specs.Journals.{WrittenChange, WrittenEntry, entry_with}
 
 abbrev pub cell_words : CellName → Words
 cell_words (name.Spot v) = codes "spot" ∷ node_words v
@@ -65,24 +65,20 @@ written_lines vars ws = map (entry_words vars) (enumerate_from 0 ws)
 abbrev pub written_text : ℕ → List WrittenEntry → List ℕ
 written_text vars ws = section_text (codes "journal") (written_lines vars ws)
 
+-- that of entries of any form, which are written so
+abbrev pub text_by : {E : Type 0} → (E → WrittenEntry) → ℕ → List E → List ℕ
+text_by written vars entries = written_text vars (map written entries)
+
 -- ---- with old values, as in version 3
 
 abbrev pub change_in_full : CellChange → WrittenChange
 change_in_full t = (t.0, Some t.1, t.2)
 
 abbrev pub written_full : Entry → WrittenEntry
-written_full e =
-    record {
-      caller = e.caller;
-      turn = e.turn;
-      bot = e.bot;
-      action = e.action;
-      moved = e.moved;
-      changes = map change_in_full e.patch;
-    }
+written_full e = entry_with e.caller e.turn e.bot e.action e.moved (map change_in_full e.patch)
 
 abbrev pub journal_text : ℕ → List Entry → List ℕ
-journal_text vars entries = written_text vars (map written_full entries)
+journal_text = text_by written_full
 
 -- ---- without old values, as in versions 1 and 2
 
@@ -90,18 +86,10 @@ abbrev pub change_of_pair : CellName × Cell → WrittenChange
 change_of_pair p = (cell_of p, None, cell_value p)
 
 abbrev pub written_plain : PlainEntry → WrittenEntry
-written_plain p =
-    record {
-      caller = p.caller;
-      turn = p.turn;
-      bot = p.bot;
-      action = p.action;
-      moved = p.moved;
-      changes = map change_of_pair p.patch;
-    }
+written_plain p = entry_with p.caller p.turn p.bot p.action p.moved (map change_of_pair p.patch)
 
 abbrev pub plain_text : ℕ → List PlainEntry → List ℕ
-plain_text vars entries = written_text vars (map written_plain entries)
+plain_text = text_by written_plain
 
 -- ---- both
 

@@ -11,12 +11,12 @@ ghost use Rattle.amoebot_state.specs.declared.cell.Cell.TheVariants as cell;
 ghost use Rattle.amoebot_state.specs.Limits.{most_vars, most_pairs};
 ghost use Rattle.claim_core.specs.Limits.{most_turns};
 ghost use Rattle.journal_text.specs.Journals as spec;
+ghost use Rattle.journal_text.specs.Journals.{WrittenEntry};
 ghost use Rattle.journal_text.specs.Readers as reader;
 ghost use Rattle.journal_text.specs.Views as view;
 
-use amoebot_state::{
-    Bot, Cell, CellName, End, Entry, MOST_PAIRS, Moved, Patch, PlainEntry, PlainPatch, Port,
-};
+use crate::forms::Form;
+use amoebot_state::{Bot, Cell, CellName, End, Entry, MOST_PAIRS, Moved, PlainEntry, Port};
 use arrayvec::ArrayVec;
 use node_text::{read_bot, read_end, read_node, read_port, read_word, read_word_within};
 use std::alloc::Global;
@@ -384,51 +384,37 @@ fn known_change(pair: WrittenPair, bots: u16) -> Option<(CellName, Option<Cell>,
     }
 }
 
-/// Adds the cells with both values, at most 10, to an empty patch, if the amoebots that they name are some of so many.
+/// Adds the cells, at most 10, to an entry that changes none, if the amoebots that they name are some
+/// of so many.
 #[inline(never)]
-fn put_known(pairs: &[WrittenPair], bots: u16, patch: &mut Patch) -> bool
+fn put_known<E: Form>(pairs: &[WrittenPair], bots: u16, entry: &mut E) -> bool
     requires few { length pairs.now ≤ most_pairs }
-    requires empty { patch.old ≡ [] }
-    ensures known { result ≡ list_all (λ id. nat_lt id bots) (flat_map spec.ids_of_change (map view.pair pairs.now)) }
-    ensures made { OnTrue result (patch.new ≡ map spec.full_change (map view.pair pairs.now)) }
+    requires begun { (w : WrittenEntry) × (entry.old ≡ E.made w) × (w.changes ≡ []) }
+    ensures known { result
+        ≡ list_all (λ id. nat_lt id bots) (flat_map spec.ids_of_change (map view.pair pairs.now)) }
+    ensures made { (w : WrittenEntry) → entry.old ≡ E.made w → w.changes ≡ []
+        → OnTrue result (entry.new ≡ E.made (spec.with_changes w (map view.pair pairs.now))) }
 {
     for pair in pairs {
         let Some((name, before, value)) = known_change(*pair, bots) else {
             return false;
         };
-        patch.push(name, before.unwrap_or(value), value);
+        entry.put(name, before, value);
     }
     true
 }
 
-/// Adds the cells with their values after, at most 10, to an empty patch, if the amoebots that they name are some of so many.
-#[inline(never)]
-fn put_known_plain(pairs: &[WrittenPair], bots: u16, patch: &mut PlainPatch) -> bool
-    requires few { length pairs.now ≤ most_pairs }
-    requires empty { patch.old ≡ [] }
-    ensures known { result ≡ list_all (λ id. nat_lt id bots) (flat_map spec.ids_of_change (map view.pair pairs.now)) }
-    ensures made { OnTrue result (patch.new ≡ map spec.plain_change (map view.pair pairs.now)) }
-{
-    for pair in pairs {
-        let Some((name, _, value)) = known_change(*pair, bots) else {
-            return false;
-        };
-        patch.push(name, value);
-    }
-    true
-}
-
-/// The entry with these pairs, if its caller and turn are ones that there may be, and its action and amoebots some of so many.
-/// Else it is refused on its line.
-fn known_entry(
+/// The entry with these pairs, if its caller and turn are ones that there may be, and its action and
+/// amoebots some of so many. Else it is refused on its line.
+fn known_entry<E: Form>(
     written: &Written,
     pairs: &[WrittenPair],
     bots: u16,
     actions: u8,
-) -> Result<Entry, ReadRefusal>
+) -> Result<E, ReadRefusal>
     requires { length pairs.now ≤ most_pairs }
     ensures { result ≡ if spec.is_known bots actions (view.entry_view written.now pairs.now).entry
-        then Ok (spec.entry_by (view.entry_view written.now pairs.now).entry)
+        then Ok (E.made (view.entry_view written.now pairs.now).entry)
         else Err (Refused (record { line = written.now.line; kind = BadEntry })) }
 {
     let Numbers {
@@ -445,111 +431,45 @@ fn known_entry(
     {
         return Err(refused(written.line, RefusalKind::BadEntry));
     }
-    let mut entry = Entry {
-        caller: caller as u8,
-        turn,
-        bot: bot as u16,
-        action: action as u8,
-        moved: written.moved,
-        patch: Patch::new(),
-    };
-    if !put_known(pairs, bots, &mut entry.patch) {
+    let mut entry = E::begin(caller as u8, turn, bot as u16, action as u8, written.moved);
+    if !put_known(pairs, bots, &mut entry) {
         return Err(refused(written.line, RefusalKind::BadEntry));
     }
     Ok(entry)
 }
 
-/// The same without old values.
-fn known_plain_entry(
-    written: &Written,
-    pairs: &[WrittenPair],
-    bots: u16,
-    actions: u8,
-) -> Result<PlainEntry, ReadRefusal>
-    requires { length pairs.now ≤ most_pairs }
-    ensures { result ≡ if spec.is_known bots actions (view.entry_view written.now pairs.now).entry
-        then Ok (spec.plain_by (view.entry_view written.now pairs.now).entry)
-        else Err (Refused (record { line = written.now.line; kind = BadEntry })) }
-{
-    let Numbers {
-        caller,
-        turn,
-        bot,
-        action,
-        ..
-    } = written.numbers;
-    if caller > LAST_CALLER
-        || turn > LAST_TURN
-        || action >= u32::from(actions)
-        || bot >= u32::from(bots)
-    {
-        return Err(refused(written.line, RefusalKind::BadEntry));
-    }
-    let mut entry = PlainEntry {
-        caller: caller as u8,
-        turn,
-        bot: bot as u16,
-        action: action as u8,
-        moved: written.moved,
-        patch: PlainPatch::new(),
-    };
-    if !put_known_plain(pairs, bots, &mut entry.patch) {
-        return Err(refused(written.line, RefusalKind::BadEntry));
-    }
-    Ok(entry)
-}
-
-/// An entry with old values, behind so many. It is judged once no further pair comes.
+/// An entry behind so many. It is judged once no further pair comes.
 #[tactic(auto, unfolding(crate::specs::Readers::an_entry))]
-fn read_entry(
+fn read_entry<E: Form>(
     tokens: &mut Tokens<'_>,
     bots: u16,
     actions: u8,
     vars: u8,
     before: u32,
     pairs: &mut Pairs,
-) -> Result<Entry, ReadRefusal>
+) -> Result<E, ReadRefusal>
     requires { vars ≤ most_vars }
-    ensures reads { Gives (λ e. e) (reader.an_entry true spec.entry_by bots actions vars before) tokens.old result tokens.new }
+    ensures reads { Gives (λ e. e) (reader.an_entry E.HAS_OLD E.made bots actions vars before)
+        tokens.old result tokens.new }
     ensures room { IfOk result (λ _. before < most_turns) }
 {
-    let written = read_written(tokens, true, vars, before, pairs)?;
+    let written = read_written(tokens, E::HAS_OLD, vars, before, pairs)?;
     if written.numbers.place != before {
         return Err(refused(written.line, RefusalKind::BadPlace));
     }
     known_entry(&written, pairs.as_slice(), bots, actions)
 }
 
-/// The same without old values.
-#[tactic(auto, unfolding(crate::specs::Readers::an_entry))]
-fn read_plain_entry(
-    tokens: &mut Tokens<'_>,
-    bots: u16,
-    actions: u8,
-    vars: u8,
-    before: u32,
-    pairs: &mut Pairs,
-) -> Result<PlainEntry, ReadRefusal>
-    requires { vars ≤ most_vars }
-    ensures reads { Gives (λ e. e) (reader.an_entry false spec.plain_by bots actions vars before) tokens.old result tokens.new }
-    ensures room { IfOk result (λ _. before < most_turns) }
-{
-    let written = read_written(tokens, false, vars, before, pairs)?;
-    if written.numbers.place != before {
-        return Err(refused(written.line, RefusalKind::BadPlace));
-    }
-    known_plain_entry(&written, pairs.as_slice(), bots, actions)
-}
-
-fn read_entries(
+fn read_entries<E: Form>(
     alloc: Global,
     tokens: &mut Tokens<'_>,
     bots: u16,
     actions: u8,
     vars: u8,
-) -> Result<Vec<Entry>, ReadRefusal>
+) -> Result<Vec<E>, ReadRefusal>
     requires { vars ≤ most_vars }
-    ensures { Gives (λ v. v.items) (reader.all_entries true spec.entry_by bots actions vars) tokens.old result tokens.new }
+    ensures { Gives (λ v. v.items) (reader.all_entries E.HAS_OLD E.made bots actions vars)
+        tokens.old result tokens.new }
 {
     let mut found = Vec::new(alloc);
     let mut pairs = ArrayVec::new();
@@ -562,42 +482,38 @@ fn read_entries(
     Ok(found)
 }
 
-fn read_plain_entries(
-    alloc: Global,
-    tokens: &mut Tokens<'_>,
-    bots: u16,
-    actions: u8,
-    vars: u8,
-) -> Result<Vec<PlainEntry>, ReadRefusal>
-    requires { vars ≤ most_vars }
-    ensures { Gives (λ v. v.items) (reader.all_entries false spec.plain_by bots actions vars) tokens.old result tokens.new }
-{
-    let mut found = Vec::new(alloc);
-    let mut pairs = ArrayVec::new();
-    let mut before = 0;
-    while tokens.is_next(TokenKind::Word, b"entry") {
-        let entry = read_plain_entry(tokens, bots, actions, vars, before, &mut pairs)?;
-        found.push(entry)?;
-        before += 1;
-    }
-    Ok(found)
-}
-
 #[tactic(auto, unfolding(crate::specs::Readers::journal_by))]
-fn read_whole(
+fn read_whole<E: Form>(
     alloc: Global,
     tokens: &mut Tokens<'_>,
     bots: u16,
     actions: u8,
     vars: u8,
-) -> Result<Entries, ReadRefusal>
+) -> Result<Vec<E>, ReadRefusal>
     requires { vars ≤ most_vars }
-    ensures { Gives (λ e. e) (reader.journal bots actions vars) tokens.old result tokens.new }
+    ensures { Gives (λ v. v.items) (reader.journal_by E.HAS_OLD E.made bots actions vars)
+        tokens.old result tokens.new }
 {
     read_word(tokens, b"journal")?;
     let entries = read_entries(alloc, tokens, bots, actions, vars)?;
     read_word(tokens, b"end")?;
-    Ok(Entries { entries })
+    Ok(entries)
+}
+
+fn read_section<E: Form>(
+    alloc: Global,
+    tokens: &mut Tokens<'_>,
+    bots: u16,
+    actions: u8,
+    vars: u8,
+) -> Result<Vec<E>, ReadRefusal>
+    requires { vars ≤ most_vars }
+    ensures tells { TellsOf (spec.IsJournalOf E.HAS_OLD E.made bots actions vars) (λ v. v.items)
+        tokens.old result tokens.new }
+    ensures reads { ReadsOf (spec.IsJournalOf E.HAS_OLD E.made bots actions vars) (λ v. v.items)
+        tokens.old result tokens.new }
+{
+    read_whole(alloc, tokens, bots, actions, vars)
 }
 
 /// Reads a journal with old values up to its `end`, of a world of so many amoebots, a program of so many actions, and so many
@@ -613,24 +529,9 @@ pub fn read_journal(
     ensures tells { TellsOf (spec.IsJournal bots actions vars) (λ e. e) tokens.old result tokens.new }
     ensures reads { ReadsOf (spec.IsJournal bots actions vars) (λ e. e) tokens.old result tokens.new }
 {
-    read_whole(alloc, tokens, bots, actions, vars)
-}
-
-#[tactic(auto, unfolding(crate::specs::Readers::journal_by))]
-fn read_whole_plain(
-    alloc: Global,
-    tokens: &mut Tokens<'_>,
-    bots: u16,
-    actions: u8,
-    vars: u8,
-) -> Result<PlainEntries, ReadRefusal>
-    requires { vars ≤ most_vars }
-    ensures { Gives (λ e. e) (reader.plain_journal bots actions vars) tokens.old result tokens.new }
-{
-    read_word(tokens, b"journal")?;
-    let entries = read_plain_entries(alloc, tokens, bots, actions, vars)?;
-    read_word(tokens, b"end")?;
-    Ok(PlainEntries { entries })
+    Ok(Entries {
+        entries: read_section(alloc, tokens, bots, actions, vars)?,
+    })
 }
 
 /// The same of a journal without old values.
@@ -645,5 +546,7 @@ pub fn read_plain(
     ensures tells { TellsOf (spec.IsPlainJournal bots actions vars) (λ e. e) tokens.old result tokens.new }
     ensures reads { ReadsOf (spec.IsPlainJournal bots actions vars) (λ e. e) tokens.old result tokens.new }
 {
-    read_whole_plain(alloc, tokens, bots, actions, vars)
+    Ok(PlainEntries {
+        entries: read_section(alloc, tokens, bots, actions, vars)?,
+    })
 }

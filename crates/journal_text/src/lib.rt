@@ -1,6 +1,7 @@
 //! The sections `journal` and `turns` as text, both ways.
 #![tactic(auto)]
 
+mod forms;
 mod journal;
 mod laws;
 mod printing;

@@ -1,47 +1,71 @@
-use Rattle.std.proofs.Common.{◌≡◌, ◌<◌, ◌+◌, ℕ, suc, true, subst, sym, ◌∙◌, arith}
+use Rattle.std.proofs.Common.{◌≡◌, ◌<◌, ◌+◌, ℕ, suc, subst, sym, ◌∙◌, arith}
 use Rattle.std.proofs.lemmas.Result.{err_from_is_err_and}
 use Rattle.text_tokens.specs.Reading.{repeated}
 use Rattle.text_tokens.proofs.StepsLemmas.{another_none, another_some, another_fails}
 use Rattle.text_tokens.proofs.LoopLemmas.{StillReads, loop_begins, loop_goes_on, loop_is_over, loop_fails}
 use Rattle.claim_core.specs.Limits.{most_turns}
 use Rattle.node_text.specs.Parts.{is_end, one_more}
-use Rattle.journal_text.specs.Journals.{is_entry, IsEntryBy, entry_by}
+use Rattle.journal_text.specs.Journals.{is_entry, IsEntryBy}
 use Rattle.journal_text.specs.Readers.{an_entry, entries_from, all_entries}
 use Rattle.journal_text.proofs.JournalLaws.{no_pair, entry_elements}
 use Rattle.journal_text.proofs.journal.read_entries.Goals as goal
 
 pub loop-pairs-init : goal.loop-pairs-init
 unfolding entries_from
-loop-pairs-init c = record { reads = loop_begins (all_entries true entry_by c.args.bots c.args.actions c.args.vars) c.args.tokens.now c.new-found.result.items c.new-found.ensures.items; few = omega arith }
+loop-pairs-init g c = record {
+  reads =
+      loop_begins (all_entries g.E.Form.HAS_OLD g.E.Form.made c.args.bots c.args.actions c.args.vars)
+      c.args.tokens.now c.new-found.result.items c.new-found.ensures.items;
+  few = omega arith;
+}
 
 pub returns-in_err-entry : goal.returns-in_err-entry
-returns-in_err-entry c =
+returns-in_err-entry g c =
     let p = err_from_is_err_and c.from_residual.result c.from_residual.ensures.1 in
+    let old = g.E.Form.HAS_OLD in let made = g.E.Form.made in
     let bots = c.args.bots in let actions = c.args.actions in let vars = c.args.vars in
     let before = c.loop-pairs.before in let here = c.loop-pairs.tokens in
-    let fails = another_fails is_entry (an_entry true entry_by bots actions vars before) here (sym c.is_next.ensures ∙ c.loop-pairs-test.true) c.in_err-entry.field-0.0 c.read_entry.new.tokens c.in_err-entry.ensures.reads in
-    rw (p.1, p.2) (loop_fails (IsEntryBy true entry_by bots actions vars) (an_entry true entry_by bots actions vars) one_more is_entry (no_pair true vars) is_end (entry_elements true vars entry_by bots actions)
-    (all_entries true entry_by bots actions vars) c.args.tokens.now c.loop-pairs.found.items before here c.loop-pairs.invariant.reads c.in_err-entry.field-0.0 c.read_entry.new.tokens fails)
+    let refusal = c.in_err-entry.field-0.0 in let there = c.read_entry.new.tokens in
+    let fails =
+    another_fails is_entry (an_entry old made bots actions vars before) here
+    (sym c.is_next.ensures ∙ c.loop-pairs-test.true) refusal there c.in_err-entry.ensures.reads in
+    rw (p.1, p.2) (loop_fails (IsEntryBy old made bots actions vars) (an_entry old made bots actions vars)
+    one_more is_entry (no_pair old vars) is_end (entry_elements old vars made bots actions)
+    (all_entries old made bots actions vars) c.args.tokens.now c.loop-pairs.found.items before here
+    c.loop-pairs.invariant.reads refusal there fails)
 
 pub loop-pairs-preserved : goal.loop-pairs-preserved
-loop-pairs-preserved c =
+loop-pairs-preserved g c =
+    let old = g.E.Form.HAS_OLD in let made = g.E.Form.made in
     let bots = c.args.bots in let actions = c.args.actions in let vars = c.args.vars in
     let before = c.loop-pairs.before in let here = c.loop-pairs.tokens in
-    let entry = c.in_ok-entry.entry in
-    let next = another_some is_entry (an_entry true entry_by bots actions vars before) here (sym c.is_next.ensures ∙ c.loop-pairs-test.true) entry c.read_entry.new.tokens c.in_ok-entry.ensures.reads in
-    let more = loop_goes_on (IsEntryBy true entry_by bots actions vars) (an_entry true entry_by bots actions vars) one_more is_entry (no_pair true vars) is_end (entry_elements true vars entry_by bots actions)
-    (all_entries true entry_by bots actions vars) c.args.tokens.now c.loop-pairs.found.items before here c.loop-pairs.invariant.reads entry c.read_entry.new.tokens next c.push.new.self.items c.in_ok-push.ensures.items in
+    let entry = c.in_ok-entry.entry in let there = c.read_entry.new.tokens in
+    let next =
+    another_some is_entry (an_entry old made bots actions vars before) here
+    (sym c.is_next.ensures ∙ c.loop-pairs-test.true) entry there c.in_ok-entry.ensures.reads in
+    let more =
+    loop_goes_on (IsEntryBy old made bots actions vars) (an_entry old made bots actions vars)
+    one_more is_entry (no_pair old vars) is_end (entry_elements old vars made bots actions)
+    (all_entries old made bots actions vars) c.args.tokens.now c.loop-pairs.found.items before here
+    c.loop-pairs.invariant.reads entry there next c.push.new.self.items c.in_ok-push.ensures.items in
     let one : suc before ≡ before + 1 = omega arith in
     let few : before < most_turns = c.in_ok-entry.ensures.room in
     record {
-      reads = subst (λ (n : ℕ). StillReads (all_entries true entry_by bots actions vars) c.args.tokens.now c.push.new.self.items (repeated is_entry (an_entry true entry_by bots actions vars) one_more n) c.read_entry.new.tokens) one more;
+      reads =
+          subst (λ (n : ℕ).
+          StillReads (all_entries old made bots actions vars) c.args.tokens.now c.push.new.self.items
+          (repeated is_entry (an_entry old made bots actions vars) one_more n) there) one more;
       few = omega (arith, few);
     }
 
 pub returns : goal.returns
-returns c =
+returns g c =
+    let old = g.E.Form.HAS_OLD in let made = g.E.Form.made in
     let bots = c.args.bots in let actions = c.args.actions in let vars = c.args.vars in
     let before = c.loop-pairs.before in let here = c.loop-pairs.tokens in
-    loop_is_over (IsEntryBy true entry_by bots actions vars) (an_entry true entry_by bots actions vars) one_more is_entry (no_pair true vars) is_end (entry_elements true vars entry_by bots actions)
-    (all_entries true entry_by bots actions vars) c.args.tokens.now c.loop-pairs.found.items before here c.loop-pairs.invariant.reads here
-    (another_none is_entry (an_entry true entry_by bots actions vars before) here (sym c.is_next.ensures ∙ c.loop-pairs-test.false))
+    loop_is_over (IsEntryBy old made bots actions vars) (an_entry old made bots actions vars)
+    one_more is_entry (no_pair old vars) is_end (entry_elements old vars made bots actions)
+    (all_entries old made bots actions vars) c.args.tokens.now c.loop-pairs.found.items before here
+    c.loop-pairs.invariant.reads here
+    (another_none is_entry (an_entry old made bots actions vars before) here
+    (sym c.is_next.ensures ∙ c.loop-pairs-test.false))
