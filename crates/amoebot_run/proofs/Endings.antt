@@ -194,9 +194,9 @@ Cause command read status.NoMemory = ⊥
 Cause command read s = ⊤
 
 cause_of_outcome : (a : Contents) (c : DocumentCommand) (bytes : List ℕ) (s : Status) (report : Option Report) (text : List ℕ) → IsOutcome a c s report text → Cause (Some (Document c)) (whole bytes) s
-cause_of_outcome a c bytes s report text (of_run d r good reached serial) = tt
-cause_of_outcome a c bytes s report text (of_tickets d r good reached serial) = tt
-cause_of_outcome a c bytes s report text (of_interleave d schedule r its_schedule good reached scheduled) = tt
+cause_of_outcome a c bytes s report text (of_run d r run) = tt
+cause_of_outcome a c bytes s report text (of_tickets d r run) = tt
+cause_of_outcome a c bytes s report text (of_interleave d schedule r its_schedule run) = tt
 cause_of_outcome a c bytes s report text (agreeing d es agrees) = tt
 cause_of_outcome a c bytes s report text (differing d place differs) = tt
 cause_of_outcome a c bytes s report text (of_check p its_program) = tt

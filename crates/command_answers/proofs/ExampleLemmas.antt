@@ -153,11 +153,11 @@ module _ (goods : ReachedIsGood) (serials : OneListIsSerial) where
   -- each good report that an interleaving gives is owed
   owes_report : (report : Report) → Good (verdict_shown out) one_alone one_list report → Reached g report → IsOwed (Some (Document Run)) (whole with_list) status.Done (Some report) (report_text 1 0 report)
   owes_report report its_good its_reached = served Run with_list and_list status.Done (Some report) (report_text 1 0 report) (says form.Run with_list (Ok and_list) are_answered.list)
-      (of_run its_lists report its_good its_reached (λ few. serials (verdict_shown out) one_alone one_list report few its_good))
+      (of_run its_lists report (record { good = its_good; reached = its_reached; serial = λ few. serials (verdict_shown out) one_alone one_list report few its_good }))
 
   owes_tickets : (report : Report) → Good (verdict_shown out) one_alone one_list report → TicketReached g report → IsOwed (Some (Document Tickets)) (whole with_list) status.Done (Some report) (report_text 1 0 report)
   owes_tickets report its_good its_reached = served Tickets with_list and_list status.Done (Some report) (report_text 1 0 report) (says form.Run with_list (Ok and_list) are_answered.list)
-      (of_tickets its_lists report its_good its_reached (λ few. serials (verdict_shown out) one_alone one_list report few its_good))
+      (of_tickets its_lists report (record { good = its_good; reached = its_reached; serial = λ few. serials (verdict_shown out) one_alone one_list report few its_good }))
 
   pub small_answers : SmallAnswers
   unfolding digits name of_two_words number_of is_number_word
@@ -170,10 +170,10 @@ module _ (goods : ReachedIsGood) (serials : OneListIsSerial) where
     long = λ bytes. longer Check bytes;
     empty = refused Interleave [] empty_refused (says form.Interleave [] (Err empty_refused) are_answered.empty);
     run = owes_report expansion_report (good goods) reached;
-    two_lists = served Run with_two_lists and_two_lists status.Done (Some two_callers_report) both_text (says form.Run with_two_lists (Ok and_two_lists) are_answered.two_lists) (of_run its_two_lists two_callers_report (both_good goods) both_reached (λ few. absurd (omega arith)));
+    two_lists = served Run with_two_lists and_two_lists status.Done (Some two_callers_report) both_text (says form.Run with_two_lists (Ok and_two_lists) are_answered.two_lists) (of_run its_two_lists two_callers_report (record { good = both_good goods; reached = both_reached; serial = λ few. absurd (omega arith) }));
     tickets = owes_tickets expansion_report (good goods) drawn;
-    two_with_tickets = served Tickets with_two_lists and_two_lists status.Done (Some two_callers_report) both_text (says form.Run with_two_lists (Ok and_two_lists) are_answered.two_lists) (of_tickets its_two_lists two_callers_report (both_good goods) both_drawn (λ few. absurd (omega arith)));
-    interleave = served Interleave with_schedule and_schedule status.Done (Some expansion_report) expansion_report_text (says form.Interleave with_schedule (Ok and_schedule) are_answered.schedule) (of_interleave its_schedule schedule expansion_report refl (good goods) reached scheduled);
+    two_with_tickets = served Tickets with_two_lists and_two_lists status.Done (Some two_callers_report) both_text (says form.Run with_two_lists (Ok and_two_lists) are_answered.two_lists) (of_tickets its_two_lists two_callers_report (record { good = both_good goods; reached = both_drawn; serial = λ few. absurd (omega arith) }));
+    interleave = served Interleave with_schedule and_schedule status.Done (Some expansion_report) expansion_report_text (says form.Interleave with_schedule (Ok and_schedule) are_answered.schedule) (of_interleave its_schedule schedule expansion_report refl (record { good = good goods; reached = reached; scheduled = scheduled }));
     agrees = served Replay (with_shape ++ expansion_journal ++ spread_text) (and_journal spread_config) status.Done None (codes "agrees 1\n") (says form.Replay (with_shape ++ expansion_journal ++ spread_text) (Ok (and_journal spread_config)) are_answered.journal) (agreeing (its_record spread_config) (expansion ∷ []) (its_journal_agrees goods));
     differs = served Replay (with_shape ++ expansion_journal ++ still_text) (and_journal one_alone) (status.Differs 1) None (codes "differs 1\n") (says form.Replay (with_shape ++ expansion_journal ++ still_text) (Ok (and_journal one_alone)) are_answered.other_final) (differing (its_record one_alone) 1 (its_journal_differs goods));
     renew = served Renew (with_shape ++ expansion_journal ++ spread_text) (and_journal spread_config) status.Done None renewed_expansion (says form.Replay (with_shape ++ expansion_journal ++ spread_text) (Ok (and_journal spread_config)) are_answered.journal) (renewing (its_record spread_config) (expansion ∷ []) (its_journal_agrees goods));

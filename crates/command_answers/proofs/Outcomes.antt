@@ -29,9 +29,9 @@ documents_have_outcomes documents c bytes a s report text h (served d same b t t
 
 -- a command whose turns workers make has no other outcome than that it is done
 pub worked_is_done : (a : Contents) (c : DocumentCommand) (s : Status) (report : Option Report) (text : List ℕ) → NeedsWorkers (Some (Document c)) → IsOutcome a c s report text → s ≡ status.Done
-worked_is_done a c s report text worked (of_run d r good reached serial) = refl
-worked_is_done a c s report text worked (of_tickets d r good reached serial) = refl
-worked_is_done a c s report text worked (of_interleave d schedule r its_schedule good reached scheduled) = refl
+worked_is_done a c s report text worked (of_run d r run) = refl
+worked_is_done a c s report text worked (of_tickets d r run) = refl
+worked_is_done a c s report text worked (of_interleave d schedule r its_schedule run) = refl
 worked_is_done a c s report text worked (agreeing d es agrees) = refl
 worked_is_done a c s report text worked (differing d place differs) = absurd worked
 worked_is_done a c s report text worked (of_check program its_program) = refl
@@ -51,9 +51,9 @@ worked_is_done a c s report text worked (elected d es is ready agrees) = refl
 -- ---- by whom a report is owed
 
 outcomes_are_of_turns : (a : Contents) (c : DocumentCommand) (s : Status) (report : Option Report) (text : List ℕ) → IsOutcome a c s report text → IsSome report ↔ ((s ≡ status.Done) × MakesTurns (Some (Document c)))
-outcomes_are_of_turns a c s report text (of_run d r good reached serial) = (λ some. (refl, tt), λ both. refl)
-outcomes_are_of_turns a c s report text (of_tickets d r good reached serial) = (λ some. (refl, tt), λ both. refl)
-outcomes_are_of_turns a c s report text (of_interleave d schedule r its_schedule good reached scheduled) = (λ some. (refl, tt), λ both. refl)
+outcomes_are_of_turns a c s report text (of_run d r run) = (λ some. (refl, tt), λ both. refl)
+outcomes_are_of_turns a c s report text (of_tickets d r run) = (λ some. (refl, tt), λ both. refl)
+outcomes_are_of_turns a c s report text (of_interleave d schedule r its_schedule run) = (λ some. (refl, tt), λ both. refl)
 outcomes_are_of_turns a c s report text (agreeing d es agrees) = (λ some. absurd (false≢true some), λ (is, makes). absurd makes)
 outcomes_are_of_turns a c s report text (differing d place differs) = (λ some. absurd (false≢true some), λ (is, makes). absurd makes)
 outcomes_are_of_turns a c s report text (of_check program its_program) = (λ some. absurd (false≢true some), λ (is, makes). absurd makes)
@@ -81,7 +81,7 @@ reports_are_of_turns c read s report text (sampled seed told v x) = (λ some. (r
 
 module _ (stays : GoodStaysConnected) (serials : OneListIsSerial) (claimed : TicketReachedIsReached) where
   told_by_outcome : (c : DocumentCommand) (bytes : List ℕ) (a : Contents) (s : Status) (report : Report) (text : List ℕ) → IsDocumentOf c bytes a → IsOutcome a c s (Some report) text → IsRunOfDocument c bytes report text
-  told_by_outcome c bytes a s report text h (of_run d r good reached serial) = record {
+  told_by_outcome c bytes a s report text h (of_run d r run) = record {
     contents = a;
     program = d.program;
     start = d.start;
@@ -90,13 +90,11 @@ module _ (stays : GoodStaysConnected) (serials : OneListIsSerial) (claimed : Tic
     its_program = d.its_program;
     its_shape = d.its_shape;
     its_lists = d.its_lists;
-    good = good;
-    reached = reached;
-    serial = serial;
-    connected = stays d.program d.start d.lists report good;
+    run = run;
+    connected = stays d.program d.start d.lists report run.good;
     writes = refl;
   }
-  told_by_outcome c bytes a s report text h (of_tickets d r good reached serial) = record {
+  told_by_outcome c bytes a s report text h (of_tickets d r run) = record {
     contents = a;
     program = d.program;
     start = d.start;
@@ -105,13 +103,11 @@ module _ (stays : GoodStaysConnected) (serials : OneListIsSerial) (claimed : Tic
     its_program = d.its_program;
     its_shape = d.its_shape;
     its_lists = d.its_lists;
-    good = good;
-    reached = claimed (setup (verdict_shown d.program) d.start d.lists) report reached;
-    serial = serial;
-    connected = stays d.program d.start d.lists report good;
+    run = record { good = run.good; reached = claimed (setup (verdict_shown d.program) d.start d.lists) report run.reached; serial = run.serial };
+    connected = stays d.program d.start d.lists report run.good;
     writes = refl;
   }
-  told_by_outcome c bytes a s report text h (of_interleave d schedule r its_schedule good reached scheduled) = record {
+  told_by_outcome c bytes a s report text h (of_interleave d schedule r its_schedule run) = record {
     contents = a;
     program = d.program;
     start = d.start;
@@ -120,10 +116,8 @@ module _ (stays : GoodStaysConnected) (serials : OneListIsSerial) (claimed : Tic
     its_program = d.its_program;
     its_shape = d.its_shape;
     its_lists = d.its_lists;
-    good = good;
-    reached = reached;
-    serial = λ few. serials (verdict_shown d.program) d.start d.lists report few good;
-    connected = stays d.program d.start d.lists report good;
+    run = record { good = run.good; reached = run.reached; serial = λ few. serials (verdict_shown d.program) d.start d.lists report few run.good };
+    connected = stays d.program d.start d.lists report run.good;
     writes = refl;
   }
 

@@ -14,6 +14,7 @@ use Rattle.serial_model.specs.Laws.{PlainRunIsUnique}
 use Rattle.serial_model.proofs.Runs.{full_is_itself}
 use Rattle.claim_core.specs.declared.report.Report.{Report}
 use Rattle.claim_core.specs.Machine.{setup}
+use Rattle.claim_core.specs.Reached.{Reached}
 use Rattle.claim_core.specs.TicketLaws.{TicketReachedIsReached}
 use Rattle.claim_core.specs.Turns.{CallerLists}
 use Rattle.claim_core.proofs.Places.{one_at}
@@ -32,8 +33,8 @@ use Rattle.shape_files.specs.LeastVersions.{DecidedFromEach, LaterIsDocument}
 use Rattle.shape_files.specs.Fitting.{FitTogether, DocumentsFit}
 use Rattle.election_law.specs.Elections.{IsErosion, IsReadyStart, cand_var, leader_of}
 use Rattle.run_sample.specs.Laws.{SampleIsFit}
-use Rattle.command_runs.specs.Run.{IsRunReport, IsRunText}
-use Rattle.command_runs.specs.Interleave.{IsInterleaveReport, IsInterleaveText}
+use Rattle.command_runs.specs.Run.{IsRunReport}
+use Rattle.command_runs.specs.Interleave.{IsInterleaveReport}
 use Rattle.command_runs.specs.Elect.{election_text}
 use Rattle.command_runs.specs.Rounds.{rounds_text}
 use Rattle.command_runs.specs.Replay.{agrees_line, differs_line, Agrees, DiffersAt}
@@ -41,7 +42,7 @@ use Rattle.command_runs.specs.Renew.{renewed_text}
 use Rattle.command_runs.specs.Reports.{report_text}
 use Rattle.command_runs.specs.Check.{check_text}
 use Rattle.command_runs.specs.Measure.{IsMeasureText}
-use Rattle.command_runs.specs.Laws.{GoodStaysConnected, RunTextIsOne, InterleaveTextIsOne, ReplayIsDecided, MeasureTextIsOne, SameReport}
+use Rattle.command_runs.specs.Laws.{GoodStaysConnected, RunReportIsOne, InterleaveReportIsOne, ReplayIsDecided, MeasureTextIsOne, SameReport}
 use Rattle.command_words.specs.declared.command.Command.TheVariants.{Document}
 use Rattle.command_words.specs.declared.command.DocumentCommand.{DocumentCommand}
 use Rattle.command_answers.specs.declared.status.Status.{Status}
@@ -167,9 +168,9 @@ pub record OneOfEach : Type 0 where
   pub documents : DecidedFromEach
   pub later : LaterIsDocument
   pub together : DocumentsFit
-  pub runs : RunTextIsOne
+  pub runs : RunReportIsOne
   pub claimed : TicketReachedIsReached
-  pub interleaves : InterleaveTextIsOne
+  pub interleaves : InterleaveReportIsOne
   pub full : ReplayIsDecided full_entry
   pub plain : ReplayIsDecided plain_entry
   pub unique : PlainRunIsUnique
@@ -183,12 +184,13 @@ pub record OneOfEach : Type 0 where
 
 module _ (laws : OneOfEach) where
   run_is_one : (a : Contents) (d e : DocumentLists a) (one two : Report) → IfSome a.lists (λ lists. length lists.ids ≤ 1)
-      → IsRunReport (verdict_shown d.program) d.start d.lists one → IsRunReport (verdict_shown e.program) e.start e.lists two
+      → IsRunReport Reached (verdict_shown d.program) d.start d.lists one → IsRunReport Reached (verdict_shown e.program) e.start e.lists two
       → SameReport one two × (report_text a.version (length d.program.vars) one ≡ report_text a.version (length e.program.vars) two)
   run_is_one a d e one two few x y =
-      let writes = subst (λ (z : Program × Config × CallerLists). IsRunText a.version z.0 z.1 z.2 two (report_text a.version (length e.program.vars) two)) (one_lists a d e) (record { run = y; whole = refl }) in
-      let by = laws.runs a.version d.program d.start d.lists one two _ _ (subst (λ ls. IfSome ls (λ lists. length lists.ids ≤ 1)) d.its_lists few) (record { run = x; whole = refl }) writes in
-      (by.0, by.1)
+      let lists = one_lists a d e in
+      let other = subst (λ (z : Program × Config × CallerLists). IsRunReport Reached (verdict_shown z.0) z.1 z.2 two) lists y in
+      let by = laws.runs (verdict_shown d.program) d.start d.lists one two a.version (length d.program.vars) (subst (λ ls. IfSome ls (λ lists. length lists.ids ≤ 1)) d.its_lists few) x other in
+      (by.0, by.1 ∙ ap (λ (z : Program × Config × CallerLists). report_text a.version (length z.0.vars) two) (sym lists))
 
   interleave_is_one : (a : Contents) (d e : DocumentLists a) (schedule other : List ℕ) (one two : Report) → a.schedule ≡ Some schedule → a.schedule ≡ Some other
       → IsInterleaveReport (verdict_shown d.program) d.start d.lists schedule one → IsInterleaveReport (verdict_shown e.program) e.start e.lists other two
@@ -196,9 +198,9 @@ module _ (laws : OneOfEach) where
   interleave_is_one a d e schedule other one two first second x y =
       let lists = one_lists a d e in
       let schedules = one_at _ other schedule second first in
-      let writes = subst (λ (z : (Program × Config × CallerLists) × List ℕ). IsInterleaveText a.version z.0.0 z.0.1 z.0.2 z.1 two (report_text a.version (length e.program.vars) two)) (λ i. (lists i, schedules i)) (record { run = y; whole = refl }) in
-      let by = laws.interleaves a.version d.program d.start d.lists schedule one two _ _ (record { run = x; whole = refl }) writes in
-      (by.0, by.1)
+      let same = subst (λ (z : (Program × Config × CallerLists) × List ℕ). IsInterleaveReport (verdict_shown z.0.0) z.0.1 z.0.2 z.1 two) (λ i. (lists i, schedules i)) y in
+      let by = laws.interleaves (verdict_shown d.program) d.start d.lists schedule one two a.version (length d.program.vars) x same in
+      (by.0, by.1 ∙ ap (λ (z : Program × Config × CallerLists). report_text a.version (length z.0.vars) two) (sym lists))
 
   fits : (bytes : List ℕ) (a : Contents) (c : DocumentCommand) → IsDocumentOf c bytes a → FitTogether a
   fits bytes a c h = (laws.together (form_of c) bytes a (of_form laws.later c bytes a h)).together
@@ -223,16 +225,16 @@ module _ (laws : OneOfEach) where
 
   one_outcome : (bytes : List ℕ) (a : Contents) (c : DocumentCommand) (s t : Status) (one two : Option Report) (text other : List ℕ) → IsDocumentOf c bytes a
       → IsOutcome a c s one text → IsOutcome a c t two other → SameOwed (Some (Document c)) (whole bytes) s t one two text other
-  one_outcome bytes a c s t one two text other h (of_run d r good reached serial) (of_run e q fine comes serially) =
-      let same = λ (decided : IfSome a.lists (λ lists. length lists.ids ≤ 1)). run_is_one a d e r q decided (record { good = good; reached = reached; serial = serial }) (record { good = fine; reached = comes; serial = serially }) in
+  one_outcome bytes a c s t one two text other h (of_run d r run) (of_run e q other_run) =
+      let same = λ (decided : IfSome a.lists (λ lists. length lists.ids ≤ 1)). run_is_one a d e r q decided run other_run in
       record { status = refl; report = λ decided. (same (decided a h)).0; text = λ decided. (same (decided a h)).1 }
-  one_outcome bytes a c s t one two text other h (of_tickets d r good reached serial) (of_tickets e q fine comes serially) =
-      let first = laws.claimed (setup (verdict_shown d.program) d.start d.lists) r reached in
-      let second = laws.claimed (setup (verdict_shown e.program) e.start e.lists) q comes in
-      let same = λ (decided : IfSome a.lists (λ lists. length lists.ids ≤ 1)). run_is_one a d e r q decided (record { good = good; reached = first; serial = serial }) (record { good = fine; reached = second; serial = serially }) in
+  one_outcome bytes a c s t one two text other h (of_tickets d r run) (of_tickets e q other_run) =
+      let first = laws.claimed (setup (verdict_shown d.program) d.start d.lists) r run.reached in
+      let second = laws.claimed (setup (verdict_shown e.program) e.start e.lists) q other_run.reached in
+      let same = λ (decided : IfSome a.lists (λ lists. length lists.ids ≤ 1)). run_is_one a d e r q decided (record { good = run.good; reached = first; serial = run.serial }) (record { good = other_run.good; reached = second; serial = other_run.serial }) in
       record { status = refl; report = λ decided. (same (decided a h)).0; text = λ decided. (same (decided a h)).1 }
-  one_outcome bytes a c s t one two text other h (of_interleave d schedule r its_schedule good reached scheduled) (of_interleave e steps q its_steps fine comes follows) =
-      let same = interleave_is_one a d e schedule steps r q its_schedule its_steps (record { good = good; reached = reached; scheduled = scheduled }) (record { good = fine; reached = comes; scheduled = follows }) in
+  one_outcome bytes a c s t one two text other h (of_interleave d schedule r its_schedule run) (of_interleave e steps q its_steps other_run) =
+      let same = interleave_is_one a d e schedule steps r q its_schedule its_steps run other_run in
       record { status = refl; report = λ _. same.0; text = λ _. same.1 }
   one_outcome bytes a c s t one two text other h (agreeing d es agrees) (agreeing e ds agree) =
       let same = same_run bytes a c h d e es ds agrees agree in

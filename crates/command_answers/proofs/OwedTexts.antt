@@ -55,7 +55,7 @@ module _ (a : Contents) (answer : Answer) where
   pub interleaves : (p : Program) (start : Config) (lists : CallerLists) (schedule : List ℕ) (report : Report) → a.checked ≡ Some p → a.world ≡ Some start → a.lists ≡ Some lists → a.schedule ≡ Some schedule → IsInterleaveReport (verdict_shown p) start lists schedule report → answer ≡ done_with a.version (length p.vars) report → IsAnswerTo Interleave a answer
   interleaves p start lists schedule report its_program its_shape its_lists its_schedule run is = same_answer Interleave a answer (done_with a.version (length p.vars) report) is (λ bytes h.
       served Interleave bytes a status.Done (Some report) (report_text a.version (length p.vars) report) h
-      (of_interleave (record { program = p; start = start; lists = lists; its_program = its_program; its_shape = its_shape; its_lists = its_lists }) schedule report its_schedule run.good run.reached run.scheduled))
+      (of_interleave (record { program = p; start = start; lists = lists; its_program = its_program; its_shape = its_shape; its_lists = its_lists }) schedule report its_schedule run))
 
 -- ---- journals
 

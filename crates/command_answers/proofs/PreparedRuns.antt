@@ -53,9 +53,11 @@ prepares serials a bytes run h its_program its_shape its_lists its_telling its_m
       let whole_text : text ≡ report_text a.version (length run.runner.vars) report = subst (λ (t : Telling). Tells t run.runner run.lists report text) its_telling tells in
       subst (λ (t : List ℕ). IsOwed (Some (Document Run)) (whole bytes) status.Done (Some report) t) (sym whole_text)
       (served Run bytes a status.Done (Some report) (report_text a.version (length run.runner.vars) report) h
-      (of_run (record { program = run.runner; start = run.world; lists = run.lists; its_program = its_program; its_shape = its_shape; its_lists = its_lists }) report good
-      (reached_by run.maker (setup (verdict_shown run.runner) run.world run.lists) report its_maker reached)
-      (λ few. serials (verdict_shown run.runner) run.world run.lists report few good)));
+      (of_run (record { program = run.runner; start = run.world; lists = run.lists; its_program = its_program; its_shape = its_shape; its_lists = its_lists }) report (record {
+        good = good;
+        reached = reached_by run.maker (setup (verdict_shown run.runner) run.world run.lists) report its_maker reached;
+        serial = λ few. serials (verdict_shown run.runner) run.world run.lists report few good;
+      })));
 }
 
 -- the same run, whose commits draw their places
@@ -73,8 +75,8 @@ module _ (serials : OneListIsSerial) (bytes : List ℕ) (run : Prepared) (prepar
         let whole_text : text ≡ report_text a.version (length run.runner.vars) report = subst (λ (t : Telling). Tells t run.runner run.lists report text) its_telling tells in
         subst (λ (t : List ℕ). IsOwed (Some (Document Tickets)) (whole bytes) status.Done (Some report) t) (sym whole_text)
         (served Tickets bytes a status.Done (Some report) (report_text a.version (length run.runner.vars) report) h
-        (of_tickets (record { program = run.runner; start = run.world; lists = run.lists; its_program = its_program; its_shape = its_shape; its_lists = its_lists }) report good reached
-        (λ few. serials (verdict_shown run.runner) run.world run.lists report few good)));
+        (of_tickets (record { program = run.runner; start = run.world; lists = run.lists; its_program = its_program; its_shape = its_shape; its_lists = its_lists }) report
+        (record { good = good; reached = reached; serial = λ few. serials (verdict_shown run.runner) run.world run.lists report few good })));
   }
 
   pub prepares_tickets : IsPrepared (Some (Document Tickets)) (whole bytes) (with_tickets run)

@@ -159,13 +159,13 @@ module _ (laws : Laws) (bytes : List ℕ) (a : Contents) (p : Program) (start : 
 
 module _ (laws : Laws) where
   pub run_texts_are_replayed : RunTextsAreReplayed
-  run_texts_are_replayed bytes a report text line holds (of_run d r good reached serial) = is_replayed laws bytes a d.program d.start d.lists report holds d.its_program d.its_shape d.its_lists good text line refl
+  run_texts_are_replayed bytes a report text line holds (of_run d r run) = is_replayed laws bytes a d.program d.start d.lists report holds d.its_program d.its_shape d.its_lists run.good text line refl
 
   pub ticket_texts_are_replayed : TicketTextsAreReplayed
-  ticket_texts_are_replayed bytes a report text line holds (of_tickets d r good reached serial) = is_replayed laws bytes a d.program d.start d.lists report holds d.its_program d.its_shape d.its_lists good text line refl
+  ticket_texts_are_replayed bytes a report text line holds (of_tickets d r run) = is_replayed laws bytes a d.program d.start d.lists report holds d.its_program d.its_shape d.its_lists run.good text line refl
 
   interleave_text_is_replayed : (bytes : List ℕ) (a : Contents) (report : Report) (text : List ℕ) → EndsLine bytes → HasContents form.Run bytes a → IsOutcome a Interleave status.Done (Some report) text → IsReplayed bytes a report text
-  interleave_text_is_replayed bytes a report text line holds (of_interleave d schedule r its_schedule good reached scheduled) = is_replayed laws bytes a d.program d.start d.lists report holds d.its_program d.its_shape d.its_lists good text line refl
+  interleave_text_is_replayed bytes a report text line holds (of_interleave d schedule r its_schedule run) = is_replayed laws bytes a d.program d.start d.lists report holds d.its_program d.its_shape d.its_lists run.good text line refl
 
   pub interleave_texts_are_replayed : InterleaveTextsAreReplayed
   interleave_texts_are_replayed = record { is_run = interleaves_are_runs; replayed = interleave_text_is_replayed }

@@ -131,14 +131,14 @@ module _ (laws : Exists) where
         let g = setup (verdict_shown d.program) d.start d.lists in
         let end = laws.rounds g (runs d) [] in
         let good : Good (verdict_shown d.program) d.start d.lists end.report = laws.goods g (runs d) end.report end.reached in
-        record { status = status.Done; report = Some end.report; text = report_text a.version (length d.program.vars) end.report; is = of_run d end.report good end.reached (λ few. laws.serials (verdict_shown d.program) d.start d.lists end.report few good) }
+        record { status = status.Done; report = Some end.report; text = report_text a.version (length d.program.vars) end.report; is = of_run d end.report (record { good = good; reached = end.reached; serial = λ few. laws.serials (verdict_shown d.program) d.start d.lists end.report few good }) }
 
     tickets_outcome : DocumentLists a → HasOutcome a Tickets
     tickets_outcome d =
         let g = setup (verdict_shown d.program) d.start d.lists in
         let (report, reached) = laws.tickets g (runs d) in
         let good : Good (verdict_shown d.program) d.start d.lists report = laws.fine g (runs d) report reached in
-        record { status = status.Done; report = Some report; text = report_text a.version (length d.program.vars) report; is = of_tickets d report good reached (λ few. laws.serials (verdict_shown d.program) d.start d.lists report few good) }
+        record { status = status.Done; report = Some report; text = report_text a.version (length d.program.vars) report; is = of_tickets d report (record { good = good; reached = reached; serial = λ few. laws.serials (verdict_shown d.program) d.start d.lists report few good }) }
 
     interleave_outcome : DocumentLists a → IsSome a.schedule → HasOutcome a Interleave
     interleave_outcome d scheduled =
@@ -146,7 +146,7 @@ module _ (laws : Exists) where
         let g = setup (verdict_shown d.program) d.start d.lists in
         let end = laws.rounds g (runs d) (reverse schedule.0) in
         let good : Good (verdict_shown d.program) d.start d.lists end.report = laws.goods g (runs d) end.report end.reached in
-        record { status = status.Done; report = Some end.report; text = report_text a.version (length d.program.vars) end.report; is = of_interleave d schedule.0 end.report schedule.1 good end.reached (record { count = end.count; ended = end.ended; first = end.first; left = end.left }) }
+        record { status = status.Done; report = Some end.report; text = report_text a.version (length d.program.vars) end.report; is = of_interleave d schedule.0 end.report schedule.1 (record { good = good; reached = end.reached; scheduled = record { count = end.count; ended = end.ended; first = end.first; left = end.left } }) }
 
     -- ---- journals and measures
 

@@ -45,9 +45,9 @@ line_of (status.Differs place) = differs_line place
 
 -- and no report comes with it
 unserved : (a : Contents) (c : DocumentCommand) (s : Status) (report : Option Report) (text : List ℕ) → IsOutcome a c s report text → s ≢ status.Done → (report ≡ None) × (text ≡ line_of s)
-unserved a c s report text (of_run d r good reached serial) other = absurd (other refl)
-unserved a c s report text (of_tickets d r good reached serial) other = absurd (other refl)
-unserved a c s report text (of_interleave d schedule r its_schedule good reached scheduled) other = absurd (other refl)
+unserved a c s report text (of_run d r run) other = absurd (other refl)
+unserved a c s report text (of_tickets d r run) other = absurd (other refl)
+unserved a c s report text (of_interleave d schedule r its_schedule run) other = absurd (other refl)
 unserved a c s report text (agreeing d es agrees) other = absurd (other refl)
 unserved a c s report text (differing d place differs) other = (refl, refl)
 unserved a c s report text (of_check p its_program) other = absurd (other refl)

@@ -1,5 +1,5 @@
 -- What a call tells that has a report: the headline, for the commands that make turns.
-use Rattle.std.specs.Prelude.{◌≡◌, ◌≤◌, ℕ, List, length}
+use Rattle.std.specs.Prelude.{◌≡◌, ℕ, List, length}
 use Rattle.std.specs.declared.option.Option.TheVariants.{Some}
 use Rattle.tri_lattice.specs.Sets.{IsConnected}
 use Rattle.amoebot_state.specs.Configs.{Config}
@@ -8,7 +8,6 @@ use Rattle.claim_core.specs.declared.report.Report.{Report}
 use Rattle.claim_core.specs.Turns.{CallerLists}
 use Rattle.claim_core.specs.Good.{Good, IsWorldAt}
 use Rattle.claim_core.specs.Reached.{Reached}
-use Rattle.claim_core.specs.SerialRuns.{SerialRun, all_turns, left_by}
 use Rattle.action_tree.specs.Trees.{Program}
 use Rattle.action_meaning.specs.Verdicts.{verdict_shown}
 use Rattle.run_sample.specs.declared.whole.Sample.{Sample as SampleValue}
@@ -17,6 +16,7 @@ use Rattle.shape_files.specs.Documents.{Contents}
 use Rattle.command_runs.specs.Laws.{StaysConnectedIn}
 use Rattle.claim_core.specs.Machine.{setup}
 use Rattle.command_runs.specs.Reports.{report_text}
+use Rattle.command_runs.specs.Run.{IsRunReport}
 use Rattle.command_words.specs.declared.command.DocumentCommand.{DocumentCommand}
 use Rattle.command_answers.specs.Commands.{IsDocumentOf}
 use Rattle.command_answers.specs.OfSample.{six_lines}
@@ -34,9 +34,7 @@ pub record IsRunOfDocument (c : DocumentCommand) (bytes : List ℕ) (report : Re
   pub its_program : contents.checked ≡ Some program
   pub its_shape : contents.world ≡ Some start
   pub its_lists : contents.lists ≡ Some lists
-  pub good : Good (verdict_shown program) start lists report
-  pub reached : Reached (setup (verdict_shown program) start lists) report
-  pub serial : length lists.ids ≤ 1 → SerialRun (verdict_shown program) start lists (all_turns lists) (left_by report)
+  pub run : IsRunReport Reached (verdict_shown program) start lists report
   pub connected : StaysConnectedIn program start report.journal.entries
   pub writes : text ≡ report_text contents.version (length program.vars) report
 

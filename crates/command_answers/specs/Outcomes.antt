@@ -11,10 +11,7 @@ use Rattle.amoebot_state.specs.Steps.{plain_entry}
 use Rattle.serial_model.specs.Forms.{full_entry}
 use Rattle.claim_core.specs.declared.report.Report.{Report}
 use Rattle.claim_core.specs.Turns.{CallerLists}
-use Rattle.claim_core.specs.Machine.{setup}
-use Rattle.claim_core.specs.Good.{Good}
 use Rattle.claim_core.specs.Reached.{Reached}
-use Rattle.claim_core.specs.SerialRuns.{SerialRun, all_turns, left_by}
 use Rattle.claim_core.specs.Tickets.{TicketReached}
 use Rattle.rewind_log.specs.Unwinding.{IsUnwound}
 use Rattle.round_meter.specs.Rounds.{IsRounded}
@@ -26,12 +23,13 @@ use Rattle.shape_files.specs.Documents.{Contents}
 use Rattle.election_law.specs.Elections.{IsErosion, IsReadyStart, cand_var, leader_of}
 use Rattle.command_runs.specs.Check.{check_text}
 use Rattle.command_runs.specs.Elect.{election_text}
-use Rattle.command_runs.specs.Interleave.{IsScheduled}
+use Rattle.command_runs.specs.Interleave.{IsInterleaveReport}
 use Rattle.command_runs.specs.Measure.{IsMeasureText}
 use Rattle.command_runs.specs.Replay.{Agrees, DiffersAt, agrees_line, differs_line}
 use Rattle.command_runs.specs.Renew.{renewed_text}
 use Rattle.command_runs.specs.Reports.{report_text}
 use Rattle.command_runs.specs.Rounds.{rounds_text}
+use Rattle.command_runs.specs.Run.{IsRunReport}
 use Rattle.command_words.specs.declared.command.DocumentCommand.{DocumentCommand}
 use Rattle.command_words.specs.declared.command.DocumentCommand.TheVariants.{Run, Interleave, Replay, Check, Measure, Renew, Rewind, Rounds, Elect, Tickets}
 use Rattle.command_answers.specs.declared.status.Status.{Status}
@@ -82,25 +80,18 @@ last_shape a = option_or a.final_world a.world
 
 -- the status, the report if there is one, and the text
 pub data IsOutcome (a : Contents) : DocumentCommand → Status → Option Report → List ℕ → Type 0 where
-  -- `run`: the report is a good one of the lists' turns, and some interleaving gives it.
-  -- With at most one list it is what the turns leave, one after another, each the verdict on the world reached and none Busy.
+  -- `run`: the report is one of a run of the lists, which an interleaving of their callers' steps gives
   of_run : (d : DocumentLists a) (report : Report)
-      → Good (verdict_shown d.program) d.start d.lists report
-      → Reached (setup (verdict_shown d.program) d.start d.lists) report
-      → (length d.lists.ids ≤ 1 → SerialRun (verdict_shown d.program) d.start d.lists (all_turns d.lists) (left_by report))
+      → IsRunReport Reached (verdict_shown d.program) d.start d.lists report
       → IsOutcome a Run status.Done (Some report) (report_text a.version (length d.program.vars) report)
-  -- `tickets`: the same of a report that an interleaving gives where commits draw their places
+  -- `tickets`: the same where commits draw their places
   of_tickets : (d : DocumentLists a) (report : Report)
-      → Good (verdict_shown d.program) d.start d.lists report
-      → TicketReached (setup (verdict_shown d.program) d.start d.lists) report
-      → (length d.lists.ids ≤ 1 → SerialRun (verdict_shown d.program) d.start d.lists (all_turns d.lists) (left_by report))
+      → IsRunReport TicketReached (verdict_shown d.program) d.start d.lists report
       → IsOutcome a Tickets status.Done (Some report) (report_text a.version (length d.program.vars) report)
-  -- `interleave`: the report is a good one too, and the interleaving of the schedule gives it
+  -- `interleave`: the report is that of the interleaving of the schedule
   of_interleave : (d : DocumentLists a) (schedule : List ℕ) (report : Report)
       → a.schedule ≡ Some schedule
-      → Good (verdict_shown d.program) d.start d.lists report
-      → Reached (setup (verdict_shown d.program) d.start d.lists) report
-      → IsScheduled (setup (verdict_shown d.program) d.start d.lists) schedule report
+      → IsInterleaveReport (verdict_shown d.program) d.start d.lists schedule report
       → IsOutcome a Interleave status.Done (Some report) (report_text a.version (length d.program.vars) report)
   -- `replay`: the journal is a run from the shape to the final shape
   agreeing : (d : DocumentRecord a) (es : List Entry)

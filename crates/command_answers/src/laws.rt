@@ -13,8 +13,8 @@ use claim_core::{
     ticket_reached_is_reached, tickets_leave_a_report,
 };
 use command_runs::{
-    good_stays_connected, interleave_text_is_one, measure_text_is_one, replay_is_decided,
-    run_text_is_one, sample_text_is_one,
+    good_stays_connected, interleave_report_is_one, measure_text_is_one, replay_is_decided,
+    run_report_is_one, sample_text_is_one,
 };
 use election_law::{election_laws, start_laws};
 use model_ops::acts_decide;
@@ -32,9 +32,9 @@ pub fn owed_is_one()
     ensures { OwedIsOne }
 {
     least_versions_are_kept();
-    run_text_is_one();
+    run_report_is_one();
     ticket_reached_is_reached();
-    interleave_text_is_one();
+    interleave_report_is_one();
     replay_is_decided::<Entry>();
     replay_is_decided::<PlainEntry>();
     plain_run_is_unique();

@@ -130,7 +130,7 @@ other_shape : DiffersAt full_entry decides start (second_expansion ∷ []) start
 other_shape = at_end second_spread (run_in full_entry) (λ same. let e = ap (λ (c : Config). occupant c (node 2)) same in cc)
 
 -- a report of `run` that is reached
-reported : ReachedIsGood → OneListIsSerial → (g : Setup) (report : Report) → IsSetup g → Reached g report → IsRunReport g.verdict g.world g.lists report
+reported : ReachedIsGood → OneListIsSerial → (g : Setup) (report : Report) → IsSetup g → Reached g report → IsRunReport Reached g.verdict g.world g.lists report
 reported goods serials g report ok reached =
     let its_good = goods g ok report reached in
     record { good = its_good; reached = reached; serial = λ few. serials g.verdict g.world g.lists report few its_good }

@@ -12,6 +12,7 @@ use Rattle.amoebot_state.specs.Steps.{plain_entry}
 use Rattle.serial_model.specs.Forms.{full_entry}
 use Rattle.claim_core.specs.declared.marks.Mark.TheVariants as mark
 use Rattle.claim_core.specs.declared.report.Report.{Report}
+use Rattle.claim_core.specs.Reached.{Reached}
 use Rattle.claim_core.specs.Turns.{CallerLists}
 use Rattle.round_meter.specs.Meters.{Metered, GoesOnIn, waiting_of}
 use Rattle.small_worlds.specs.Rows.{node, row_frame, row_with, bot_in_row, two_beside, expanded, one_refused}
@@ -119,9 +120,9 @@ meter_behind = record {
 }
 
 pub record SmallCommands : Type 0 where
-  pub run : IsRunReport decides start second_list one_expanded
+  pub run : IsRunReport Reached decides start second_list one_expanded
   -- a run of two lists may leave what an interleaving of them leaves
-  pub two_lists : IsRunReport decides start two_beside.lists one_refused
+  pub two_lists : IsRunReport Reached decides start two_beside.lists one_refused
   pub text : report_text 2 0 one_expanded ≡ its_plain_journal ++ its_end
   pub text_in_full : report_text 3 0 one_expanded ≡ its_journal ++ its_end
   pub interleave : IsInterleaveReport decides start two_beside.lists two_caller_schedule one_refused

@@ -1,6 +1,6 @@
 -- The command `interleave`: the callers of the schedule make their steps, one after another; then each caller makes one step in rising
 -- number, round after round, until all have ended.
-use Rattle.std.specs.Prelude.{◌≡◌, ◌<◌, ℕ, List, length, reverse}
+use Rattle.std.specs.Prelude.{◌<◌, ℕ, List, reverse}
 use Rattle.amoebot_state.specs.declared.verdict.Verdict.{Verdict}
 use Rattle.amoebot_state.specs.Configs.{Config}
 use Rattle.amoebot_state.specs.Zones.{Shown}
@@ -10,9 +10,6 @@ use Rattle.claim_core.specs.Good.{Good}
 use Rattle.claim_core.specs.Machine.{Setup, State, after, setup}
 use Rattle.claim_core.specs.Reached.{HaveEnded, IsReportOf, Reached}
 use Rattle.claim_core.specs.StepRounds.{step_rounds}
-use Rattle.action_tree.specs.Trees.{Program}
-use Rattle.action_meaning.specs.Verdicts.{verdict_shown}
-use Rattle.command_runs.specs.Reports.{report_text}
 
 -- the state after the steps of the schedule and so many rounds
 abbrev pub at_round : Setup → List ℕ → ℕ → State
@@ -31,10 +28,3 @@ pub record IsInterleaveReport (f : Shown → Verdict) (start : Config) (lists : 
   pub good : Good f start lists report
   pub reached : Reached (setup f start lists) report
   pub scheduled : IsScheduled (setup f start lists) schedule report
-
--- what the command writes where a document of this version has this program, this shape, these lists and this schedule: the text of
--- such a report
-pub record IsInterleaveText (version : ℕ) (p : Program) (start : Config) (lists : CallerLists)
-    (schedule : List ℕ) (report : Report) (text : List ℕ) : Type 0 where
-  pub run : IsInterleaveReport (verdict_shown p) start lists schedule report
-  pub whole : text ≡ report_text version (length p.vars) report

@@ -12,6 +12,7 @@ use Rattle.claim_core.specs.declared.report.Report.{Report}
 use Rattle.claim_core.specs.Turns.{CallerLists}
 use Rattle.claim_core.specs.Good.{Good, IsWorldAt}
 use Rattle.claim_core.specs.Machine.{Setup}
+use Rattle.claim_core.specs.Reached.{Reached}
 use Rattle.text_tokens.specs.declared.refusal.Refusal.{Refusal}
 use Rattle.text_tokens.specs.Text.{Lexeme, AreTokens}
 use Rattle.action_tree.specs.Trees.{Program}
@@ -20,8 +21,9 @@ use Rattle.action_print.specs.Canon.{canon}
 use Rattle.action_print.specs.ReadsBack.{AreReadAs}
 use Rattle.action_check.specs.Faults.{AreRulesKept}
 use Rattle.action_meaning.specs.Verdicts.{verdict_on, verdict_shown}
-use Rattle.command_runs.specs.Run.{IsRunText}
-use Rattle.command_runs.specs.Interleave.{IsScheduled, IsInterleaveText}
+use Rattle.command_runs.specs.Reports.{report_text}
+use Rattle.command_runs.specs.Run.{IsRunReport}
+use Rattle.command_runs.specs.Interleave.{IsScheduled, IsInterleaveReport}
 use Rattle.command_runs.specs.Replay.{AgreesIn, DiffersAt}
 use Rattle.command_runs.specs.Rounds.{CountedIn}
 use Rattle.command_runs.specs.Measure.{IsMeasureText}
@@ -33,14 +35,14 @@ pub record SameReport (one two : Report) : Type 0 where
   pub entries : one.journal.entries ≡ two.journal.entries
   pub marks : one.turns.marks ≡ two.turns.marks
 
--- a document of `run` with at most one list has at most one text
-abbrev pub RunTextIsOne : Type 0
-RunTextIsOne =
-    (version : ℕ) (p : Program) (start : Config) (lists : CallerLists) (one two : Report) (text other : List ℕ)
+-- a run of at most one list has at most one report, and one text of it
+abbrev pub RunReportIsOne : Type 0
+RunReportIsOne =
+    (f : Shown → Verdict) (start : Config) (lists : CallerLists) (one two : Report) (version vars : ℕ)
     → length lists.ids ≤ 1
-    → IsRunText version p start lists one text
-    → IsRunText version p start lists two other
-    → SameReport one two × (text ≡ other)
+    → IsRunReport Reached f start lists one
+    → IsRunReport Reached f start lists two
+    → SameReport one two × (report_text version vars one ≡ report_text version vars two)
 
 -- a schedule gives at most one report
 abbrev pub ScheduleHasOneReport : Type 0
@@ -50,14 +52,13 @@ ScheduleHasOneReport =
     → IsScheduled g schedule two
     → SameReport one two
 
--- so a document of `interleave` has at most one text
-abbrev pub InterleaveTextIsOne : Type 0
-InterleaveTextIsOne =
-    (version : ℕ) (p : Program) (start : Config) (lists : CallerLists) (schedule : List ℕ) (one two : Report)
-    (text other : List ℕ)
-    → IsInterleaveText version p start lists schedule one text
-    → IsInterleaveText version p start lists schedule two other
-    → SameReport one two × (text ≡ other)
+-- and at most one text of it
+abbrev pub InterleaveReportIsOne : Type 0
+InterleaveReportIsOne =
+    (f : Shown → Verdict) (start : Config) (lists : CallerLists) (schedule : List ℕ) (one two : Report) (version vars : ℕ)
+    → IsInterleaveReport f start lists schedule one
+    → IsInterleaveReport f start lists schedule two
+    → SameReport one two × (report_text version vars one ≡ report_text version vars two)
 
 -- Of entries in a form: what agrees differs nowhere, and what differs does so at one place.
 -- Where each change that is decided leads somewhere, a journal from a valid shape agrees or differs.

@@ -1,7 +1,7 @@
 //! What holds of the commands. The functions do nothing: their clauses are the laws.
 
-ghost use Rattle.command_runs.specs.Laws.{CanonMeansTheSame, GoodIsFew, GoodStaysConnected, InterleaveTextIsOne, MeasureTextIsOne};
-ghost use Rattle.command_runs.specs.Laws.{ReplayIsDecided, RoundsAreDecided, RunTextIsOne, SampleTextIsOne, ScheduleHasOneReport};
+ghost use Rattle.command_runs.specs.Laws.{CanonMeansTheSame, GoodIsFew, GoodStaysConnected, InterleaveReportIsOne, MeasureTextIsOne};
+ghost use Rattle.command_runs.specs.Laws.{ReplayIsDecided, RoundsAreDecided, RunReportIsOne, SampleTextIsOne, ScheduleHasOneReport};
 ghost use Rattle.command_runs.specs.Examples.{SmallCommands};
 
 use action_meaning::program_runs_stay_connected;
@@ -15,17 +15,17 @@ use serial_model::{
 };
 use shape_checks::hexagon_laws;
 
-/// A document of `run` with at most one list has at most one report, and one text.
-pub fn run_text_is_one()
-    ensures { RunTextIsOne }
+/// A run of at most one list has at most one report, and one text of it.
+pub fn run_report_is_one()
+    ensures { RunReportIsOne }
 {
     serial_run_is_determined();
 }
 
-/// A schedule gives at most one report, and a document of `interleave` has at most one text.
-pub fn interleave_text_is_one()
+/// A schedule gives at most one report, and one text of it.
+pub fn interleave_report_is_one()
     ensures report { ScheduleHasOneReport }
-    ensures text { InterleaveTextIsOne }
+    ensures text { InterleaveReportIsOne }
 {
     state_has_one_report();
 }

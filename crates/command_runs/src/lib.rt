@@ -16,8 +16,8 @@ pub use counting::{RoundCount, count_rounds};
 pub use explaining::{print_election, print_rounds};
 pub use interleaving::run_interleaved;
 pub use laws::{
-    canon_means_the_same, good_is_few, good_stays_connected, interleave_text_is_one,
-    measure_text_is_one, replay_is_decided, rounds_are_decided, run_text_is_one,
+    canon_means_the_same, good_is_few, good_stays_connected, interleave_report_is_one,
+    measure_text_is_one, replay_is_decided, rounds_are_decided, run_report_is_one,
     sample_text_is_one, small_commands,
 };
 pub use measuring::print_measures;

@@ -169,16 +169,18 @@ module _ {E : Type 0} {form : Entry → E} {bot : E → ℕ} {entry : E → Chan
   leads : (f : Shown → Verdict) (old : Config) (told : E) (e : Entry) → HasPatchedWorld f → IsValid old → IsSome (bot_at old (bot told)) → form e ≡ told → f (shown old (bot told)) ≡ verdict.Change (change_of e) → (new : Config) × StepIn form f old told new
   leads f old told e next valid there tells decided =
       let led = next old (bot told) (change_of e) (record { valid = valid; there = there; decided = decided }) in
-      let same : bot told ≡ e.bot = sym (bots e told tells) in
-      (led.0, record {
-        source = e;
-        tells = tells;
-        holds = record {
-          there = subst (λ (i : ℕ). IsSome (bot_at old i)) same there;
-          decided = ap (λ (i : ℕ). f (shown old i)) (sym same) ∙ decided;
-          patched = led.1;
-        };
-      })
+      let same : bot told ≡ e.bot = sym (bots e told tells) in (
+        led.0,
+        record {
+          source = e;
+          tells = tells;
+          holds = record {
+            there = subst (λ (i : ℕ). IsSome (bot_at old i)) same there;
+            decided = ap (λ (i : ℕ). f (shown old i)) (sym same) ∙ decided;
+            patched = led.1;
+          };
+        },
+      )
 
   -- the step of the entry that it makes
   pub makes : (f : Shown → Verdict) (old new : Config) (told : E) (change : Change) → IsSome (bot_at old (bot told)) → f (shown old (bot told)) ≡ verdict.Change change → IsPatched old (plain_patch change.patch) new → Step f old (entry told change) new

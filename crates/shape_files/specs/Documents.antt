@@ -132,10 +132,6 @@ IsDocumentFaultFrom least form bytes r =
     → AreTokens bytes 0 ts last
     → IsInputFault (IsDocumentFrom least form) Trailing last ts r
 
--- the same for each version that there is
-abbrev pub IsDocumentFault : Form → List ℕ → Refusal → Type 0
-IsDocumentFault form bytes r = IsDocumentFaultFrom least_version form bytes r
-
 -- ---- laws
 
 -- Of any bytes one thing holds: they are a document of the form, which has one thing, or they have one first fault.
