@@ -18,8 +18,8 @@ use std::alloc::{AllocError, Global};
 use std::process::Abort;
 use std::sync::Wait;
 use std::test::Fail;
-use std::thread;
 use std::thread::Threads;
+use test_gates::YieldGate;
 
 /// Whether the report is one of the document's run, by the checker.
 fn is_report_of(alloc: Global, document: &str, report: &Report) -> Result<bool, Fail> {
@@ -50,17 +50,6 @@ pub(crate) fn right_report<R: Abort + Threads + Wait + Sync, G: Gate>(
     Ok(report)
 }
 
-/// A gate that lets other threads go first, so that zones are held for a while.
-struct Yielding;
-
-impl Gate for Yielding {
-    fn claimed(&self, _caller: u8, _turn: u32) {
-        for _time in 0..20 {
-            thread::yield_now();
-        }
-    }
-}
-
 /// The document leaves a right report by each word. Every fourth time the gate lets other threads go first.
 pub(crate) fn check_reports<R: Abort + Threads + Wait + Sync>(
     rt: &R,
@@ -70,7 +59,7 @@ pub(crate) fn check_reports<R: Abort + Threads + Wait + Sync>(
 ) -> Result<(), Fail> {
     for word in ON_THREADS {
         if time % 4 == 0 {
-            right_report(rt, alloc, word, document, &Yielding)?;
+            right_report(rt, alloc, word, document, &YieldGate)?;
         } else {
             right_report(rt, alloc, word, document, &NoGate)?;
         }

@@ -11,7 +11,6 @@ mod own;
 mod seat;
 mod seats;
 mod turning;
-mod turns;
 mod working;
 
 pub use activating::{TicketTurn, activate_ticket};
@@ -19,5 +18,4 @@ pub use field::TicketField;
 pub use laws::{own_list_is_one, own_list_is_unpacked};
 pub use seat::TicketSeat;
 pub use seats::TicketSeats;
-pub use turns::TicketTurns;
-pub use working::{TicketWorked, work_tickets};
+pub use working::{TicketTurns, TicketWorked, work_tickets};

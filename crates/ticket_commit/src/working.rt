@@ -1,4 +1,4 @@
-ghost use Rattle.std.specs.Prelude.{◌≡◌, length, IfOk, IsSome};
+ghost use Rattle.std.specs.Prelude.{IfOk, IsSome};
 ghost use Rattle.std.specs.List.{All};
 ghost use Rattle.amoebot_state.specs.Configs.{bot_at};
 ghost use Rattle.claim_core.specs.Good.{Good};
@@ -7,25 +7,24 @@ ghost use Rattle.claim_core.specs.Tickets.{TicketReached};
 ghost use Rattle.claim_rule.specs.Views.{setup_of_terms, field_terms};
 ghost use Rattle.turn_desks.specs.Turns.{AreTurnsOf};
 
+use crate::activating::TicketTurn;
 use crate::desks::{clear, seat_all};
 use crate::field::TicketField;
 use crate::turning::{ByTickets, activate_all};
-use crate::turns::TicketTurns;
 use activation::Gate;
 use amoebot_state::{Decider, NoMemory, World, has_next, touches_zone};
-use claim_core::{Core, Lists, Marks, Report};
+use claim_core::{Lists, Marks, Report};
 use claim_rule::ended_tickets_are_reached;
 use std::alloc::Global;
 use std::sync::Wait;
 use std::thread::Threads;
-use turn_desks::copy_marks;
+use turn_desks::{Turns, Worked, copy_marks, without_lists};
+
+/// What became of each turn of each caller, as `activate_ticket` answered that turn.
+pub type TicketTurns = Turns<TicketTurn>;
 
 /// What the workers leave: the report, and for each turn what its activation answered.
-#[derive(Drop)]
-pub struct TicketWorked {
-    pub report: Report,
-    pub turns: TicketTurns,
-}
+pub type TicketWorked = Worked<TicketTurn>;
 
 /// Makes the turns of all callers, each caller's in their order by a worker of its own. Commits draw their places, so no worker waits for
 /// another one's commit. All memory is taken before the first claim.
@@ -45,7 +44,7 @@ pub fn work_tickets<R: Threads + Wait + Sync, D: Decider, G: Gate>(
     ensures turns { IfOk result (λ worked. AreTurnsOf worked.report.turns worked.turns) }
 {
     if lists.callers() == 0 {
-        return rest(alloc, decider, world, lists);
+        return without_lists(alloc, decider, world, lists);
     }
     world.keeps();
     touches_zone(decider);
@@ -59,35 +58,12 @@ pub fn work_tickets<R: Threads + Wait + Sync, D: Decider, G: Gate>(
     let turns = clear(&mut seats, desks, room);
     copy_marks(&ByTickets { field: &field }, &mut marks, turns.as_slice());
     let (world, journal) = field.close(seats);
-    Ok(TicketWorked {
+    Ok(Worked {
         report: Report {
             world,
             journal,
             turns: marks,
         },
-        turns: TicketTurns { turns },
-    })
-}
-
-/// What is left where there is no caller.
-fn rest<D: Decider>(
-    alloc: Global,
-    decider: &D,
-    world: World,
-    lists: &Lists,
-) -> Result<TicketWorked, NoMemory>
-    requires { length lists.now.ids ≡ 0 }
-    ensures ticketed { IfOk result (λ worked.
-        TicketReached (setup_of_terms D.verdict (field_terms decider.now world lists.now)) worked.report) }
-    ensures reached { IfOk result (λ worked. Reached (setup_of_terms D.verdict (field_terms decider.now world lists.now)) worked.report) }
-    ensures good { IfOk result (λ worked. Good (D.verdict decider.now) world lists.now worked.report) }
-    ensures turns { IfOk result (λ worked. AreTurnsOf worked.report.turns worked.turns) }
-{
-    let core = Core::make(alloc, decider, world, lists)?;
-    Ok(TicketWorked {
-        report: core.report(),
-        turns: TicketTurns {
-            turns: Vec::new(alloc),
-        },
+        turns: Turns::of(turns),
     })
 }

@@ -8,11 +8,11 @@ use Rattle.claim_core.specs.Turns.{MarkLists}
 use Rattle.node_claims.specs.declared.turn.Turn.{Turn}
 use Rattle.node_claims.specs.Answers.{caller_of, turn_of, mark_of}
 
--- what became of a caller's turns, and of one of them, if the caller has it
-abbrev pub turns_of : {W : Type 0} → List (List (Turn W)) → ℕ → List (Turn W)
+-- what a caller's turns were answered with, and one of them, if the caller has it
+abbrev pub turns_of : {A : Type 0} → List (List A) → ℕ → List A
 turns_of turns caller = slice_index_or turns caller []
 
-abbrev pub turn_at : {W : Type 0} → List (List (Turn W)) → ℕ → ℕ → Option (Turn W)
+abbrev pub turn_at : {A : Type 0} → List (List A) → ℕ → ℕ → Option A
 turn_at turns caller turn = slice_get (turns_of turns caller) turn
 
 -- the marks of some turns

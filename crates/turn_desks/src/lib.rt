@@ -5,9 +5,13 @@ mod laws;
 mod marks;
 mod start;
 mod turning;
+mod turns;
+mod worked;
 mod workers;
 
 pub use laws::turns_are_one;
 pub use marks::copy_marks;
 pub use turning::Turning;
+pub use turns::Turns;
+pub use worked::{Worked, without_lists};
 pub use workers::{Desk, make_all};

@@ -5,7 +5,7 @@ ghost use Rattle.amoebot_state.specs.Limits.{most_bots};
 ghost use Rattle.amoebot_state.specs.Refusals.{IsBotInRange};
 
 use crate::runs::{WAYS, report_of};
-use activation::{Gate, NoGate};
+use activation::NoGate;
 use amoebot_state::{Bot, Decider, End, Port};
 use claim_tests::is_report;
 use small_worlds::{Expander, Marker, lists_of, standing, turned, world_of};
@@ -13,8 +13,8 @@ use std::alloc::Global;
 use std::process::Abort;
 use std::sync::Wait;
 use std::test::Fail;
-use std::thread;
 use std::thread::Threads;
+use test_gates::YieldGate;
 
 /// Expands contracted amoebots through head 0.
 const EXPANDER: Expander = Expander {
@@ -23,17 +23,6 @@ const EXPANDER: Expander = Expander {
         dir: 0,
     },
 };
-
-/// A gate that lets other threads go first, so that zones are held for a while.
-struct Yielding;
-
-impl Gate for Yielding {
-    fn claimed(&self, _caller: u8, _turn: u32) {
-        for _time in 0..20 {
-            thread::yield_now();
-        }
-    }
-}
 
 /// Judges the reports of so many runs by each way. Each journal, replayed, gives the report's world.
 fn check_runs<R: Threads + Wait + Sync + Abort, D: Decider>(
@@ -55,7 +44,7 @@ fn check_runs<R: Threads + Wait + Sync + Abort, D: Decider>(
             let report = if run % 2 == 0 {
                 report_of(rt, alloc, way, decider, bots, turns, ids, &NoGate)?
             } else {
-                report_of(rt, alloc, way, decider, bots, turns, ids, &Yielding)?
+                report_of(rt, alloc, way, decider, bots, turns, ids, &YieldGate)?
             };
             let passes = is_report(alloc, decider, &first, &lists, &report)?;
             assert!(rt; passes, "run {run}");

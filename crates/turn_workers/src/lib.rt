@@ -4,10 +4,8 @@
 mod activations;
 mod desks;
 mod meeting;
-mod turns;
 mod working;
 
 pub use meeting::MeetGate;
 pub use turn_desks::turns_are_one;
-pub use turns::Turns;
-pub use working::{Worked, work};
+pub use working::{Turns, Worked, work};

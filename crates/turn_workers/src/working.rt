@@ -1,4 +1,4 @@
-ghost use Rattle.std.specs.Prelude.{◌≡◌, length, IfOk, IsSome};
+ghost use Rattle.std.specs.Prelude.{IfOk, IsSome};
 ghost use Rattle.std.specs.List.{All};
 ghost use Rattle.amoebot_state.specs.Configs.{bot_at};
 ghost use Rattle.claim_core.specs.Good.{Good};
@@ -8,22 +8,21 @@ ghost use Rattle.turn_desks.specs.Turns.{AreTurnsOf};
 
 use crate::activations::{ByActivation, activate_all};
 use crate::desks::{clear, seat_all};
-use crate::turns::Turns;
 use activation::Gate;
 use amoebot_state::{Decider, NoMemory, World, has_next, touches_zone};
-use claim_core::{Core, Lists, Marks, Report};
+use claim_core::{Lists, Marks, Report};
 use claim_rule::{Field, ended_field_is_reached};
+use node_claims::Turn;
 use std::alloc::Global;
 use std::sync::Wait;
 use std::thread::Threads;
-use turn_desks::copy_marks;
+use turn_desks::{copy_marks, without_lists};
+
+/// What became of each turn of each caller, as the activation of that turn answered it.
+pub type Turns = turn_desks::Turns<Turn>;
 
 /// What the workers leave: the report, and for each turn what its activation answered.
-#[derive(Drop)]
-pub struct Worked {
-    pub report: Report,
-    pub turns: Turns,
-}
+pub type Worked = turn_desks::Worked<Turn>;
 
 /// Makes the turns of all callers, each caller's in their order by a worker of its own. All memory is taken before the first claim.
 pub fn work<R: Threads + Wait + Sync, D: Decider, G: Gate>(
@@ -40,7 +39,7 @@ pub fn work<R: Threads + Wait + Sync, D: Decider, G: Gate>(
     ensures turns { IfOk result (λ worked. AreTurnsOf worked.report.turns worked.turns) }
 {
     if lists.callers() == 0 {
-        return rest(alloc, decider, world, lists);
+        return without_lists(alloc, decider, world, lists);
     }
     world.keeps();
     touches_zone(decider);
@@ -64,27 +63,6 @@ pub fn work<R: Threads + Wait + Sync, D: Decider, G: Gate>(
             journal,
             turns: marks,
         },
-        turns: Turns { turns },
-    })
-}
-
-/// What is left where there is no caller.
-fn rest<D: Decider>(
-    alloc: Global,
-    decider: &D,
-    world: World,
-    lists: &Lists,
-) -> Result<Worked, NoMemory>
-    requires { length lists.now.ids ≡ 0 }
-    ensures reached { IfOk result (λ worked. Reached (setup_of_terms D.verdict (field_terms decider.now world lists.now)) worked.report) }
-    ensures good { IfOk result (λ worked. Good (D.verdict decider.now) world lists.now worked.report) }
-    ensures turns { IfOk result (λ worked. AreTurnsOf worked.report.turns worked.turns) }
-{
-    let core = Core::make(alloc, decider, world, lists)?;
-    Ok(Worked {
-        report: core.report(),
-        turns: Turns {
-            turns: Vec::new(alloc),
-        },
+        turns: Turns::of(turns),
     })
 }

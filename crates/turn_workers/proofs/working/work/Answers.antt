@@ -16,7 +16,7 @@ use Rattle.turn_desks.specs.Desks.{AreClear, AreTaken, AreAllMade, HaveMade, sea
 use Rattle.turn_desks.proofs.MadeTurns.{first_have, are_taken, all_turns, are_made, told_is, written, as_many}
 use Rattle.turn_workers.proofs.WorkEnds.{is_report}
 use Rattle.turn_workers.proofs.working.work.Given.{Over}
-use Rattle.turn_workers.proofs.working.work.Goals.{After-activate_all, After-copy_marks}
+use Rattle.turn_workers.proofs.working.work.Goals.{After-activate_all, After-copy_marks, After-of}
 use Rattle.turn_workers.proofs.working.work.Goals as goal
 
 -- src/working.rt
@@ -112,7 +112,7 @@ pub close-world-requires-clause-all : goal.close-world-requires-clause-all
 close-world-requires-clause-all g c κs within = (made g c).there
 
 -- the field is closed, and what is left is a report
-report : (g : Over) (c : goal.After-close-world g) → Reached (setup_of_terms g.D.Decider.verdict (field_terms c.args.decider.now c.args.world c.args.lists.now)) (record { world = c.close-world.result.0; journal = c.close-world.result.1; turns = c.copy_marks.new.marks })
+report : (g : Over) (c : After-of g) → Reached (setup_of_terms g.D.Decider.verdict (field_terms c.args.decider.now c.args.world c.args.lists.now)) (record { world = c.close-world.result.0; journal = c.close-world.result.1; turns = c.copy_marks.new.marks })
     × Good (g.D.Decider.verdict c.args.decider.now) c.args.world c.args.lists.now (record { world = c.close-world.result.0; journal = c.close-world.result.1; turns = c.copy_marks.new.marks })
 report g c =
     let at = goal.at.returns-clause-reached g c in
@@ -135,4 +135,4 @@ returns-clause-good g c = (report g c).1
 
 pub returns-clause-turns : goal.returns-clause-turns
 returns-clause-turns g c =
-    subst (AreTurnsOf c.copy_marks.new.marks) (told_is c.clear-turns.result.items) (made g (goal.at.returns-clause-turns g c).After-copy_marks).turns
+    subst (AreTurnsOf c.copy_marks.new.marks) (told_is c.clear-turns.result.items ∙ sym c.of.ensures) (made g (goal.at.returns-clause-turns g c).After-copy_marks).turns

@@ -1,9 +1,9 @@
 use Rattle.std.proofs.Common.{[], subst, arith}
 use Rattle.claim_core.specs.Cores.{Running, setup_of}
 use Rattle.claim_core.specs.Reached.{HaveEnded, IsReportOf}
-use Rattle.ticket_commit.proofs.working.rest.Goals as goal
+use Rattle.turn_desks.proofs.worked.without_lists.Goals as goal
 
--- src/working.rt
+-- src/worked.rt
 pub returns-clause-ticketed : goal.returns-clause-ticketed
 returns-clause-ticketed g c =
     let opened = c.in_ok-core.ensures.opened in
