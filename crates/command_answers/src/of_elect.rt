@@ -128,7 +128,8 @@ fn make_steps<E: EntryForm>(
     requires begun { election.old.steps ≡ 0 }
     ensures agrees { OnOk result (AgreesIn E.form (verdict_shown election.old.program) election.old.world entries.now last.now) }
     ensures reached { OnOk result (election.new.world ≡ last.now) }
-    ensures differs { IfErr result (λ e. DiffersAt E.form (verdict_shown election.old.program) election.old.world entries.now last.now e.place) }
+    ensures differs { IfErr result (λ e.
+        DiffersAt E.form (verdict_shown election.old.program) election.old.world entries.now last.now e.place) }
 {
     for told in entries {
         election.step_in(told)?;

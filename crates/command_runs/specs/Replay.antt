@@ -19,9 +19,13 @@ AgreesIn form f start told final = InForm (map form) (λ (es : List Entry). Agre
 
 -- Or they differ at a place. That is the first entry that is no step; or, where all are steps, their number, since the final shape
 -- is another than the last world.
-pub data DiffersAt {E : Type 0} (form : Entry → E) (f : Shown → Verdict) (start : Config) (told : List E) (final : Config) : ℕ → Type 0 where
+pub data DiffersAt {E : Type 0} (form : Entry → E) (f : Shown → Verdict) (start : Config) (told : List E)
+    (final : Config) : ℕ → Type 0 where
   at_entry : (place : ℕ) → IsFirstNoStep form f start told place → DiffersAt form f start told final place
-  at_end : (last : Config) → RunIn form f start told last → last ≢ final → DiffersAt form f start told final (length told)
+  at_end : (last : Config)
+      → RunIn form f start told last
+      → last ≢ final
+      → DiffersAt form f start told final (length told)
 
 abbrev pub agrees_line : ℕ → List ℕ
 agrees_line count = line_text (codes "agrees" ∷ decimal count ∷ [])
