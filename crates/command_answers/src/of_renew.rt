@@ -2,6 +2,8 @@
 
 ghost use Rattle.std.specs.Prelude.{◌≡◌, ◌<◌, length, IfOk};
 ghost use Rattle.std.specs.List.{All};
+ghost use Rattle.amoebot_state.specs.Steps.{plain_entry};
+ghost use Rattle.serial_model.specs.Forms.{full_entry};
 ghost use Rattle.serial_model.specs.Replays.{AreCountable};
 ghost use Rattle.shape_files.specs.Fitting.{Fits};
 ghost use Rattle.shape_files.specs.Views.{contents};
@@ -12,10 +14,9 @@ ghost use Rattle.command_answers.specs.Told.{TellsRun};
 use crate::answer::{Answer, differ, done};
 use crate::recorded::{Journal, Recorded, recorded_in};
 use action_eval::Runner;
-use amoebot_state::{Entry, NoMemory, World};
-use command_runs::{follow_all, print_renewed};
+use amoebot_state::{Entry, NoMemory, PlainEntry, World};
+use command_runs::{compare, follow_all, print_renewed};
 use command_words::DocumentCommand;
-use serial_model::EntryForm;
 use shape_files::Parts;
 use std::alloc::Global;
 
@@ -31,22 +32,42 @@ pub(crate) fn answer_renew(alloc: Global, parts: Parts) -> Result<Answer, NoMemo
         journal,
     } = recorded_in(parts);
     match journal {
-        Journal::Full(full) => tell_renewed(alloc, &runner, &start, full.entries(), &last),
-        Journal::Plain(plain) => tell_renewed(alloc, &runner, &start, plain.entries(), &last),
+        Journal::Full(full) => renew_full(alloc, &runner, &start, full.entries(), &last),
+        Journal::Plain(plain) => renew_plain(alloc, &runner, &start, plain.entries(), &last),
     }
 }
 
-/// The answer to entries in a form, whose amoebots are the start's.
-fn tell_renewed<E: EntryForm>(
+/// The answer to entries with their old values, whose amoebots are the start's. They are written as they were read.
+fn renew_full(
     alloc: Global,
     runner: &Runner,
     start: &World,
-    entries: &[E],
+    entries: &[Entry],
     last: &World,
 ) -> Result<Answer, NoMemory>
-    requires there { All (λ e. E.bot e < length start.now.bots) entries.now }
+    requires there { All (λ e. e.bot < length start.now.bots) entries.now }
     requires few { AreCountable entries.now }
-    ensures { IfOk result (TellsRun E.form runner.now start.now entries.now last.now
+    ensures { IfOk result (TellsRun full_entry runner.now start.now entries.now last.now
+        (λ es a. a ≡ renewed_with runner.now start.now es last.now)) }
+{
+    let taken = start.copy(alloc)?;
+    match compare(runner, taken, entries, last) {
+        Ok(()) => renew(alloc, runner, start, entries, last),
+        Err(differs) => differ(alloc, differs.place),
+    }
+}
+
+/// The answer to entries without them. The entries of their run are made.
+fn renew_plain(
+    alloc: Global,
+    runner: &Runner,
+    start: &World,
+    entries: &[PlainEntry],
+    last: &World,
+) -> Result<Answer, NoMemory>
+    requires there { All (λ p. p.bot < length start.now.bots) entries.now }
+    requires few { AreCountable entries.now }
+    ensures { IfOk result (TellsRun plain_entry runner.now start.now entries.now last.now
         (λ es a. a ≡ renewed_with runner.now start.now es last.now)) }
 {
     let taken = start.copy(alloc)?;

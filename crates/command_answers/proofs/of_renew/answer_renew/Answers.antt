@@ -14,7 +14,7 @@ returns-in-Full c =
     let d = record_of a r.result.runner r.result.start r.result.last r.ensures.program r.ensures.start r.ensures.last in
     let told = c.entries.result.now in
     let its : a.entries ≡ Some told = subst (HasItsJournal a) c.in-Full.is r.ensures.journal ∙ ap Some (sym c.entries.ensures) in
-    IfOk-weaker _ _ _ (renewed a d told (in_full_form a d told its)) c.tell_renewed.ensures
+    IfOk-weaker _ _ _ (renewed a d told (in_full_form a d told its)) c.renew_full.ensures
 
 pub returns : goal.returns
 returns c =
@@ -23,4 +23,4 @@ returns c =
     let d = record_of a r.result.runner r.result.start r.result.last r.ensures.program r.ensures.start r.ensures.last in
     let told = c.entries-in-Plain.result.now in
     let its : a.plain ≡ Some told = subst (HasItsJournal a) c.in-Plain.is r.ensures.journal ∙ ap Some (sym c.entries-in-Plain.ensures) in
-    IfOk-weaker _ _ _ (renewed a d told (in_plain_form a d told its)) c.tell_renewed-in-Plain.ensures
+    IfOk-weaker _ _ _ (renewed a d told (in_plain_form a d told its)) c.renew_plain.ensures
