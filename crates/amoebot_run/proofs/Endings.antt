@@ -10,19 +10,19 @@ use Rattle.claim_rule.specs.declared.manner.ByJournal.{ByJournal}
 use Rattle.claim_rule.specs.declared.manner.ByTicket.{ByTicket}
 use Rattle.node_claims.specs.declared.turn.Turn.{Turn}
 use Rattle.shipped_programs.specs.declared.shipped.Shipped.{Shipped}
-use Rattle.command_words.specs.declared.command.Command.{Command}
-use Rattle.command_words.specs.declared.command.Command.TheVariants.{Document, Show, Sample}
-use Rattle.command_words.specs.declared.command.DocumentCommand.{DocumentCommand}
-use Rattle.command_answers.specs.declared.status.Status.{Status}
-use Rattle.command_answers.specs.declared.status.Status.TheVariants as status
-use Rattle.command_answers.specs.Commands.{IsDocumentOf, MakesTurns, ReadsNothing}
-use Rattle.command_answers.specs.OfSample.{six_lines}
+use Rattle.commands.specs.declared.words.Command.{Command}
+use Rattle.commands.specs.declared.words.Command.TheVariants.{Document, Show, Sample}
+use Rattle.commands.specs.declared.words.DocumentCommand.{DocumentCommand}
+use Rattle.commands.specs.declared.status.Status.{Status}
+use Rattle.commands.specs.declared.status.Status.TheVariants as status
+use Rattle.commands.specs.Commands.{IsDocumentOf, MakesTurns, ReadsNothing}
+use Rattle.commands.specs.OfSample.{six_lines}
 use Rattle.text_tokens.specs.Kinds.{name}
-use Rattle.command_answers.specs.Lines.{refusal_line, too_long}
-use Rattle.command_answers.specs.Laws.{OwedIsOne, SameOwed, DocumentsHaveOutcomes, ReportsAreOfTurns, ReportsAreOfDocuments, ReportsAreOfSamples}
-use Rattle.command_answers.specs.Reads.{Read, nothing, whole, above, up_to_fault, some}
-use Rattle.command_answers.specs.Outcomes.{IsOutcome, of_run, of_tickets, of_interleave, agreeing, differing, of_check, of_measure, renewing, renew_differing, no_place, unwound, not_unwound, rounded, not_rounded, no_erosion, not_ready, not_elected, elected}
-use Rattle.command_answers.specs.Owed.{IsOwed, usage, read_fault, longer, refused, served, shown, sampled}
+use Rattle.commands.specs.Lines.{refusal_line, too_long}
+use Rattle.commands.specs.Laws.{OwedIsOne, SameOwed, DocumentsHaveOutcomes, ReportsAreOfTurns, ReportsAreOfDocuments, ReportsAreOfSamples}
+use Rattle.commands.specs.Reads.{Read, nothing, whole, above, up_to_fault, some}
+use Rattle.commands.specs.Outcomes.{IsOutcome, of_run, of_tickets, of_interleave, agreeing, differing, of_check, of_measure, renewing, renew_differing, no_place, unwound, not_unwound, rounded, not_rounded, no_erosion, not_ready, not_elected, elected}
+use Rattle.commands.specs.Owed.{IsOwed, usage, read_fault, longer, refused, served, shown, sampled}
 use Rattle.amoebot_run.specs.declared.ended.Ended.{Ended}
 use Rattle.amoebot_run.specs.Clauses.{WroteAll, WroteFront}
 use Rattle.amoebot_run.specs.Endings.{IsEnding, written, cut, wanting, IsReadWithinLimit, IsAnswered, IsOutsideFault, IsUnwritten, IsServed, IsReportOfCall, of_document, of_sample}

@@ -3,7 +3,7 @@ use Rattle.std.proofs.Common.{◌≡◌, ◌∙◌, ◌≤◌, ◌+◌, ap, sym,
 use Rattle.std.proofs.lemmas.List.{length-append}
 use Rattle.std.proofs.lemmas.Option.{same_Some, none-some}
 use Rattle.std.specs.Io.KnownBytes.{Consumes, IsAtEnd}
-use Rattle.command_answers.specs.Reads.{Read, IsReading, nothing, whole, above, up_to_fault, some}
+use Rattle.commands.specs.Reads.{Read, IsReading, nothing, whole, above, up_to_fault, some}
 use Rattle.amoebot_run.proofs.Endings.{IsAll}
 
 -- what was consumed up to the end is all of it

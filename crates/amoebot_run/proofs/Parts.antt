@@ -7,18 +7,18 @@ use Rattle.claim_core.specs.Good.{Good}
 use Rattle.amoebot_state.specs.Configs.{Config}
 use Rattle.action_tree.specs.Trees.{Program}
 use Rattle.action_meaning.specs.Verdicts.{verdict_shown}
-use Rattle.command_words.specs.declared.command.Command.{Command}
-use Rattle.command_words.specs.declared.command.Command.TheVariants.{Document}
-use Rattle.command_words.specs.declared.command.DocumentCommand.{DocumentCommand}
-use Rattle.command_answers.specs.declared.answer.Answer.{Answer}
-use Rattle.command_answers.specs.declared.answer.Prepared.{Prepared}
-use Rattle.command_answers.specs.declared.answer.Task.TheVariants as task
-use Rattle.command_answers.specs.declared.answer.Telling.{Telling}
-use Rattle.command_answers.specs.declared.status.Status.{Status}
-use Rattle.command_answers.specs.declared.status.Status.TheVariants as status
-use Rattle.command_answers.specs.Answers.{IsPrepared, IsTaskOf, TellsReport, Tells}
-use Rattle.command_answers.specs.Owed.{IsOwed}
-use Rattle.command_answers.specs.Reads.{Read, whole}
+use Rattle.commands.specs.declared.words.Command.{Command}
+use Rattle.commands.specs.declared.words.Command.TheVariants.{Document}
+use Rattle.commands.specs.declared.words.DocumentCommand.{DocumentCommand}
+use Rattle.commands.specs.declared.answer.Answer.{Answer}
+use Rattle.commands.specs.declared.answer.Prepared.{Prepared}
+use Rattle.commands.specs.declared.answer.Task.TheVariants as task
+use Rattle.commands.specs.declared.answer.Telling.{Telling}
+use Rattle.commands.specs.declared.status.Status.{Status}
+use Rattle.commands.specs.declared.status.Status.TheVariants as status
+use Rattle.commands.specs.Answers.{IsPrepared, IsTaskOf, TellsReport, Tells}
+use Rattle.commands.specs.Owed.{IsOwed}
+use Rattle.commands.specs.Reads.{Read, whole}
 use Rattle.amoebot_run.specs.declared.begin.Begun.{Begun}
 use Rattle.amoebot_run.specs.declared.begin.Begun.TheVariants as begun
 use Rattle.amoebot_run.specs.declared.ended.Ended.{Ended}

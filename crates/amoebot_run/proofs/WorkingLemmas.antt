@@ -6,13 +6,13 @@ use Rattle.outer_io.specs.declared.writing.Sink.{Ghosts as SinkOf}
 use Rattle.claim_rule.specs.declared.manner.ByJournal.{ByJournal}
 use Rattle.claim_rule.specs.declared.manner.ByTicket.{ByTicket}
 use Rattle.node_claims.specs.declared.turn.Turn.{Turn}
-use Rattle.command_words.specs.declared.command.Command.{Command}
-use Rattle.command_answers.specs.declared.answer.Maker.{Maker}
-use Rattle.command_answers.specs.declared.answer.Maker.TheVariants as maker
-use Rattle.command_answers.specs.declared.status.Status.{Status}
-use Rattle.command_answers.specs.declared.status.Status.TheVariants as status
-use Rattle.command_answers.specs.Answers.{turn_maker}
-use Rattle.command_answers.specs.Commands.{AreTickets, AreWorkers, HaveWorkers, IsTicketed, IsWorked, NeedsWorkers, TurnMaker, maker_of, no_maker, the_schedule, the_workers, the_tickets}
+use Rattle.commands.specs.declared.words.Command.{Command}
+use Rattle.commands.specs.declared.answer.Maker.{Maker}
+use Rattle.commands.specs.declared.answer.Maker.TheVariants as maker
+use Rattle.commands.specs.declared.status.Status.{Status}
+use Rattle.commands.specs.declared.status.Status.TheVariants as status
+use Rattle.commands.specs.Answers.{turn_maker}
+use Rattle.commands.specs.Commands.{AreTickets, AreWorkers, HaveWorkers, IsTicketed, IsWorked, NeedsWorkers, TurnMaker, maker_of, no_maker, the_schedule, the_workers, the_tickets}
 use Rattle.amoebot_run.specs.declared.ended.Ended.{Ended}
 use Rattle.amoebot_run.specs.declared.making.Made.{Made}
 use Rattle.amoebot_run.specs.Parts.{HasTold, IsEndOfWriting, all, front}

@@ -6,10 +6,10 @@ use Rattle.outer_io.specs.Told.{Rose}
 use Rattle.outer_io.specs.Writings.{WritesAll, WritesFront}
 use Rattle.outer_io.specs.declared.reading.Source.{Ghosts as SourceOf}
 use Rattle.outer_io.specs.declared.writing.Sink.{Ghosts as SinkOf}
-use Rattle.command_words.specs.declared.command.Command.{Command}
-use Rattle.command_words.specs.Words.{command_of}
-use Rattle.command_answers.specs.Commands.{limit_for}
-use Rattle.command_answers.specs.Reads.{Read, IsReading}
+use Rattle.commands.specs.declared.words.Command.{Command}
+use Rattle.commands.specs.Words.{command_of}
+use Rattle.commands.specs.Commands.{limit_for}
+use Rattle.commands.specs.Reads.{Read, IsReading}
 
 -- the command that the words ask for, if they are one
 abbrev pub asked : List (String Global) → Option Command

@@ -6,16 +6,16 @@ use Rattle.outer_io.specs.Told.{Grows}
 use Rattle.outer_io.specs.KeptBytes.{KeptBytes, kept_after, written_of}
 use Rattle.claim_core.specs.declared.report.Report.{Report}
 use Rattle.shape_files.specs.Documents.{Contents}
-use Rattle.command_words.specs.declared.command.Command.{Command}
-use Rattle.command_words.specs.declared.command.Command.TheVariants.{Document, Sample}
-use Rattle.command_words.specs.declared.command.DocumentCommand.{DocumentCommand}
-use Rattle.command_answers.specs.declared.status.Status.{Status}
-use Rattle.command_answers.specs.declared.status.Status.TheVariants as status
-use Rattle.command_answers.specs.Headline.{IsRunOfDocument, IsRunOfSample}
-use Rattle.command_answers.specs.Laws.{HasOneReport, HasOneText, SameIfAny}
-use Rattle.command_answers.specs.Outcomes.{IsOutcome}
-use Rattle.command_answers.specs.Reads.{Read, nothing, whole, above, up_to_fault, some}
-use Rattle.command_answers.specs.Owed.{IsOwed}
+use Rattle.commands.specs.declared.words.Command.{Command}
+use Rattle.commands.specs.declared.words.Command.TheVariants.{Document, Sample}
+use Rattle.commands.specs.declared.words.DocumentCommand.{DocumentCommand}
+use Rattle.commands.specs.declared.status.Status.{Status}
+use Rattle.commands.specs.declared.status.Status.TheVariants as status
+use Rattle.commands.specs.Headline.{IsRunOfDocument, IsRunOfSample}
+use Rattle.commands.specs.Laws.{HasOneReport, HasOneText, SameIfAny}
+use Rattle.commands.specs.Outcomes.{IsOutcome}
+use Rattle.commands.specs.Reads.{Read, nothing, whole, above, up_to_fault, some}
+use Rattle.commands.specs.Owed.{IsOwed}
 
 -- no read failed, and no byte above the limit was got
 abbrev pub IsReadWithinLimit : Read → Type 0

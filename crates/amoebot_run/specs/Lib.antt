@@ -4,10 +4,10 @@ pub mod Parts
 pub mod Working
 pub use Rattle.action_meaning.specs.Verdicts
 pub use Rattle.claim_core.specs.Good
-pub use Rattle.command_answers.specs.Commands
-pub use Rattle.command_answers.specs.OfSample
-pub use Rattle.command_answers.specs.Owed
-pub use Rattle.command_answers.specs.Reads
-pub use Rattle.command_words.specs.Syntax
+pub use Rattle.commands.specs.Commands
+pub use Rattle.commands.specs.OfSample
+pub use Rattle.commands.specs.Owed
+pub use Rattle.commands.specs.Reads
+pub use Rattle.commands.specs.Syntax
 pub use Rattle.outer_io.specs.Told
 pub use Rattle.shape_files.specs.Documents

@@ -14,14 +14,14 @@ use Rattle.node_claims.specs.declared.turn.Turn.{Turn}
 use Rattle.turn_desks.specs.Turns.{AreTurnsOf}
 use Rattle.action_tree.specs.Trees.{Program}
 use Rattle.action_meaning.specs.Verdicts.{verdict_shown}
-use Rattle.command_words.specs.declared.command.Command.{Command}
-use Rattle.command_answers.specs.declared.answer.Maker.{Maker}
-use Rattle.command_answers.specs.declared.answer.Maker.TheVariants as maker
-use Rattle.command_answers.specs.declared.answer.Prepared.{Prepared}
-use Rattle.command_answers.specs.declared.status.Status.{Status}
-use Rattle.command_answers.specs.declared.status.Status.TheVariants as status
-use Rattle.command_answers.specs.Answers.{IsPrepared, ReachedBy}
-use Rattle.command_answers.specs.Reads.{Read}
+use Rattle.commands.specs.declared.words.Command.{Command}
+use Rattle.commands.specs.declared.answer.Maker.{Maker}
+use Rattle.commands.specs.declared.answer.Maker.TheVariants as maker
+use Rattle.commands.specs.declared.answer.Prepared.{Prepared}
+use Rattle.commands.specs.declared.status.Status.{Status}
+use Rattle.commands.specs.declared.status.Status.TheVariants as status
+use Rattle.commands.specs.Answers.{IsPrepared, ReachedBy}
+use Rattle.commands.specs.Reads.{Read}
 use Rattle.amoebot_run.specs.declared.ended.Ended.{Ended}
 use Rattle.amoebot_run.specs.declared.begin.Begun.{Begun}
 use Rattle.amoebot_run.specs.declared.begin.Begun.TheVariants as begun

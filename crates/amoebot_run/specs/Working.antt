@@ -7,10 +7,10 @@ use Rattle.claim_rule.specs.declared.manner.ByJournal.{ByJournal}
 use Rattle.claim_rule.specs.declared.manner.ByTicket.{ByTicket}
 use Rattle.node_claims.specs.declared.turn.Turn.{Turn}
 use Rattle.turn_desks.specs.Turns.{AreTurnsOf}
-use Rattle.command_words.specs.declared.command.Command.{Command}
-use Rattle.command_answers.specs.Commands.{IsTicketed, IsWorked}
-use Rattle.command_answers.specs.declared.status.Status.{Status}
-use Rattle.command_answers.specs.declared.status.Status.TheVariants as status
+use Rattle.commands.specs.declared.words.Command.{Command}
+use Rattle.commands.specs.Commands.{IsTicketed, IsWorked}
+use Rattle.commands.specs.declared.status.Status.{Status}
+use Rattle.commands.specs.declared.status.Status.TheVariants as status
 
 -- there is a report, and these are what became of its turns
 abbrev pub AreOfReport : {W : Type 0} → Option Report → List (List (Turn W)) → Type 0

@@ -5,9 +5,9 @@
 ghost use Rattle.std.specs.Prelude.{◌≡◌, ◌⊎◌, Some, ⊤, true};
 ghost use Rattle.std.specs.List.{list_any};
 ghost use Rattle.std.specs.String.{string_bytes};
-ghost use Rattle.command_words.specs.Syntax.{begins_with_dash};
-ghost use Rattle.command_answers.specs.Commands.{ReadsNothing};
-ghost use Rattle.command_answers.specs.Reads.{nothing};
+ghost use Rattle.commands.specs.Syntax.{begins_with_dash};
+ghost use Rattle.commands.specs.Commands.{ReadsNothing};
+ghost use Rattle.commands.specs.Reads.{nothing};
 ghost use Rattle.amoebot_run.specs.Clauses.{CameTo, WroteAll, WroteFront, asked};
 ghost use Rattle.amoebot_run.specs.Endings.{IsEnding};
 ghost use Rattle.amoebot_run.specs.Parts.{HasEnded, IsBegun};
@@ -15,8 +15,8 @@ ghost use Rattle.amoebot_run.specs.Working.{HasTickets, HasTurns};
 
 use crate::ended::{Ended, end_with, end_with_answer, end_with_line};
 use amoebot_state::NoMemory;
-use command_answers::{Prepared, Status, Task, answer_show, prepare_sample, row_of, task_of};
-use command_words::{Command, DocumentCommand, command_of};
+use commands::{Prepared, Status, Task, answer_show, prepare_sample, row_of, task_of};
+use commands::{Command, DocumentCommand, command_of};
 use outer_io::{ReadError, Sink, Source, read_document};
 use shipped_programs::Shipped;
 use std::alloc::Global;

@@ -6,14 +6,14 @@ ghost use Rattle.std.specs.String.{string_bytes};
 ghost use Rattle.outer_io.specs.Told.{Rose};
 ghost use Rattle.claim_core.specs.declared.report.Report.{Report as ReportValue};
 ghost use Rattle.shape_files.specs.Documents.{Contents};
-ghost use Rattle.command_words.specs.declared.command.Command.{Command as CommandValue};
-ghost use Rattle.command_words.specs.declared.command.DocumentCommand.{DocumentCommand as DocumentCommandValue};
-ghost use Rattle.command_answers.specs.declared.status.Status.{Status as StatusValue};
-ghost use Rattle.command_words.specs.Syntax.{begins_with_dash};
-ghost use Rattle.command_answers.specs.Commands.{IsDocumentOf, MakesTurns, ReadsNothing, limit_for};
-ghost use Rattle.command_answers.specs.Reads.{nothing, whole};
-ghost use Rattle.command_answers.specs.Owed.{IsOwed};
-ghost use Rattle.command_answers.specs.OfSample.{six_lines};
+ghost use Rattle.commands.specs.declared.words.Command.{Command as CommandValue};
+ghost use Rattle.commands.specs.declared.words.DocumentCommand.{DocumentCommand as DocumentCommandValue};
+ghost use Rattle.commands.specs.declared.status.Status.{Status as StatusValue};
+ghost use Rattle.commands.specs.Syntax.{begins_with_dash};
+ghost use Rattle.commands.specs.Commands.{IsDocumentOf, MakesTurns, ReadsNothing, limit_for};
+ghost use Rattle.commands.specs.Reads.{nothing, whole};
+ghost use Rattle.commands.specs.Owed.{IsOwed};
+ghost use Rattle.commands.specs.OfSample.{six_lines};
 ghost use Rattle.amoebot_run.specs.Clauses.{CameTo, WroteAll, WroteFront, asked};
 ghost use Rattle.amoebot_run.specs.Endings.{HasText, IsAnswered, IsEnding, IsOutsideFault, IsReadingOf};
 ghost use Rattle.amoebot_run.specs.Endings.{IsReportOfCall, IsServed, IsUnwritten};
@@ -25,10 +25,10 @@ use crate::finish::finish;
 use crate::making::make_turns;
 use activation::{Gate, NoGate};
 use amoebot_state::NoMemory;
-use command_answers::{
+use commands::{
     Prepared, Status, documents_have_outcomes, owed_is_one, reports_are_of_runs,
 };
-use command_words::Command;
+use commands::Command;
 use outer_io::{Sink, Source, SureSink, SureSource, text_is_kept_as_one_piece};
 use std::alloc::Global;
 use std::sync::Wait;

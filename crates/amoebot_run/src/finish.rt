@@ -2,7 +2,7 @@
 
 ghost use Rattle.claim_core.specs.Good.{Good};
 ghost use Rattle.action_meaning.specs.Verdicts.{verdict_shown};
-ghost use Rattle.command_answers.specs.Answers.{IsCounted, Tells};
+ghost use Rattle.commands.specs.Answers.{IsCounted, Tells};
 ghost use Rattle.amoebot_run.specs.Parts.{IsEndedRun};
 
 use crate::ended::{Ended, end_with, end_with_answer};
@@ -10,7 +10,7 @@ use crate::making::Made;
 use action_eval::Runner;
 use amoebot_state::NoMemory;
 use claim_core::Lists;
-use command_answers::{Status, Telling, tell};
+use commands::{Status, Telling, tell};
 use outer_io::Sink;
 use std::alloc::Global;
 

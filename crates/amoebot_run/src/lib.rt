@@ -8,5 +8,5 @@ mod finish;
 mod making;
 
 pub use calls::{run, run_text};
-pub use command_answers::Status;
+pub use commands::Status;
 pub use ended::Ended;

@@ -9,7 +9,7 @@ use action_eval::Runner;
 use activation::Gate;
 use amoebot_state::{NoMemory, World};
 use claim_core::{Lists, Report};
-use command_answers::Maker;
+use commands::Maker;
 use std::alloc::Global;
 use std::sync::Wait;
 use std::thread::Threads;

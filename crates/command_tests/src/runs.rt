@@ -7,7 +7,7 @@ ghost use Rattle.amoebot_state.specs.Refusals.{IsBotInRange};
 
 use amoebot_state::{Bot, Decider, End, Entry, NoMemory, PlainEntry, Port, World};
 use claim_core::Report;
-use command_runs::{
+use commands::{
     RoundCount, compare, count_rounds, follow_all, print_agrees, print_differs, print_election,
     print_report, print_rounds, run_interleaved,
 };

@@ -1,5 +1,5 @@
 use amoebot_state::NoMemory;
-use command_words::{Command, DocumentCommand, command_of};
+use commands::{Command, DocumentCommand, command_of};
 use shipped_programs::Shipped;
 use std::alloc::Global;
 use std::test::Fail;

@@ -1,10 +1,10 @@
 use Rattle.std.proofs.Common.{Some, None, ap, refl, sym, subst, ◌∙◌}
-use Rattle.command_answers.specs.declared.status.Status.TheVariants as status
-use Rattle.command_answers.specs.Commands.{ReadsNothing}
-use Rattle.command_answers.specs.Lines.{usage_line}
-use Rattle.command_answers.specs.Owed.{usage}
-use Rattle.command_answers.specs.Reads.{nothing}
-use Rattle.command_words.specs.declared.command.Command.TheVariants.{Show, Sample}
+use Rattle.commands.specs.declared.status.Status.TheVariants as status
+use Rattle.commands.specs.Commands.{ReadsNothing}
+use Rattle.commands.specs.Lines.{usage_line}
+use Rattle.commands.specs.Owed.{usage}
+use Rattle.commands.specs.Reads.{nothing}
+use Rattle.commands.specs.declared.words.Command.TheVariants.{Show, Sample}
 use Rattle.amoebot_run.specs.Clauses.{CameTo}
 use Rattle.amoebot_run.proofs.Parts.{begun_at, begun_maps, has_ended_with, line_begun, without_begun}
 use Rattle.amoebot_run.proofs.begin.begin.Goals as goal

@@ -1,11 +1,11 @@
 use Rattle.std.proofs.Common.{ℕ, None, Err, ap, refl, subst}
 use Rattle.outer_io.specs.declared.errors.ReadError.{ReadError}
 use Rattle.outer_io.specs.Readings.{ReadsUpTo, ReadsWhole}
-use Rattle.command_answers.specs.declared.status.Status.TheVariants as status
-use Rattle.command_answers.specs.Answers.{IsTaskOf}
-use Rattle.command_answers.specs.Lines.{read_fault_line, refusal_line, too_long}
-use Rattle.command_answers.specs.Owed.{read_fault, longer}
-use Rattle.command_answers.specs.Reads.{whole, above, up_to_fault, some}
+use Rattle.commands.specs.declared.status.Status.TheVariants as status
+use Rattle.commands.specs.Answers.{IsTaskOf}
+use Rattle.commands.specs.Lines.{read_fault_line, refusal_line, too_long}
+use Rattle.commands.specs.Owed.{read_fault, longer}
+use Rattle.commands.specs.Reads.{whole, above, up_to_fault, some}
 use Rattle.amoebot_run.specs.Parts.{IsEndOfWriting, is_to_run}
 use Rattle.amoebot_run.proofs.Endings.{too_long_line}
 use Rattle.amoebot_run.proofs.Parts.{answer_begun, line_begun, without_begun}

@@ -1,5 +1,5 @@
 use Rattle.std.proofs.Common.{refl}
-use Rattle.command_answers.specs.Reads.{nothing}
+use Rattle.commands.specs.Reads.{nothing}
 use Rattle.amoebot_run.specs.Parts.{is_to_run}
 use Rattle.amoebot_run.proofs.Parts.{without_begun}
 use Rattle.amoebot_run.proofs.begin.begin_sample.Goals as goal

@@ -1,5 +1,5 @@
 use Rattle.std.proofs.Common.{None, refl}
-use Rattle.command_answers.specs.Reads.{nothing}
+use Rattle.commands.specs.Reads.{nothing}
 use Rattle.amoebot_run.proofs.Endings.{ending_of, without}
 use Rattle.amoebot_run.proofs.WorkingLemmas.{none_told, turns_of, without_turns}
 use Rattle.amoebot_run.proofs.begin.end_show.Goals as goal

@@ -2,7 +2,7 @@ use Rattle.std.proofs.Common.{ap, Some, inl, inr, refl}
 use Rattle.amoebot_run.proofs.Endings.{ending_maps, without}
 use Rattle.amoebot_run.proofs.InMemory.{not_risen, reading_of, has_text, memory_alone, unwritten_alone, answered_maps, told_maps}
 use Rattle.amoebot_run.proofs.WorkingLemmas.{without_turns}
-use Rattle.command_answers.specs.Reads.{nothing}
+use Rattle.commands.specs.Reads.{nothing}
 use Rattle.amoebot_run.proofs.calls.run_text.Goals as goal
 
 pub returns-in-Ok-clause-ending : goal.returns-in-Ok-clause-ending

@@ -1,8 +1,0 @@
-use Rattle.command_answers.proofs.TaskLemmas.{prepared_is_one, telling_is_one}
-use Rattle.command_answers.proofs.laws.prepared_is_one.Goals as goal
-
-pub returns : goal.returns
-returns c = record {
-  run = prepared_is_one c.least_versions_are_kept.ensures.decided c.sample_is_unique.ensures;
-  text = telling_is_one c.sample_text_is_one.ensures;
-}

@@ -1,5 +1,0 @@
-use Rattle.command_answers.proofs.ExplainExampleLemmas.{small_explanations}
-use Rattle.command_answers.proofs.laws.small_explanations.Goals as goal
-
-pub returns : goal.returns
-returns c = small_explanations c.reached_is_good.ensures

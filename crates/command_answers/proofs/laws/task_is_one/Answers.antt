@@ -1,5 +1,0 @@
-use Rattle.command_answers.proofs.TaskLemmas.{task_is_one}
-use Rattle.command_answers.proofs.laws.task_is_one.Goals as goal
-
-pub returns : goal.returns
-returns c = task_is_one c.least_versions_are_kept.ensures.decided c.owed_is_one.ensures

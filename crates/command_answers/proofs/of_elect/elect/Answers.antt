@@ -1,8 +1,0 @@
-use Rattle.std.proofs.lemmas.Result.{IfOk-weaker}
-use Rattle.command_answers.proofs.ElectLemmas.{tells_steps}
-use Rattle.command_answers.proofs.of_elect.elect.Goals as goal
-
-pub returns : goal.returns
-returns g c =
-    let steps = c.make_steps-made.ensures in
-    IfOk-weaker _ _ _ (λ answer is. tells_steps g.E.EntryForm.form c.args.election.program c.args.election.world c.args.entries.now c.args.last.now answer c.make_steps-made.result _ steps.agrees steps.reached steps.differs is) c.tell_election.ensures

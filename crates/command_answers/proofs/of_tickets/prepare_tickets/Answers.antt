@@ -1,5 +1,0 @@
-use Rattle.command_answers.proofs.PreparedRuns.{prepares_tickets}
-use Rattle.command_answers.proofs.of_tickets.prepare_tickets.Goals as goal
-
-pub returns : goal.returns
-returns c = λ bytes h. prepares_tickets c.one_list_is_serial.ensures bytes c.prepare-prepared.result (c.prepare-prepared.ensures bytes h)

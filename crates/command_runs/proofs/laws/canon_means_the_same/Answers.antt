@@ -1,5 +1,0 @@
-use Rattle.command_runs.proofs.Canonical.{canon_means_the_same}
-use Rattle.command_runs.proofs.laws.canon_means_the_same.Goals as goal
-
-pub returns : goal.returns
-returns c = canon_means_the_same

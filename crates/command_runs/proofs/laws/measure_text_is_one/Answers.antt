@@ -1,5 +1,0 @@
-use Rattle.command_runs.proofs.Measures.{measure_text_is_one}
-use Rattle.command_runs.proofs.laws.measure_text_is_one.Goals as goal
-
-pub returns : goal.returns
-returns c = measure_text_is_one

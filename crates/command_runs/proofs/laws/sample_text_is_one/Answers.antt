@@ -1,5 +1,0 @@
-use Rattle.command_runs.proofs.SampleTexts.{sample_text_is_one}
-use Rattle.command_runs.proofs.laws.sample_text_is_one.Goals as goal
-
-pub returns : goal.returns
-returns c = sample_text_is_one

@@ -1,4 +1,0 @@
-pub mod CommandLemmas
-pub mod SyntaxLemmas
-pub mod NumberWords
-pub mod WordsLemmas

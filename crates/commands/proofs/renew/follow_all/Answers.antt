@@ -1,0 +1,33 @@
+use Rattle.std.proofs.Common.{◌≡◌, ◌<◌, length, map, take, arith, ap, sym, ◌∙◌, subst}
+use Rattle.std.proofs.lemmas.Bool.{false≢true}
+use Rattle.std.proofs.Math.Seq.{take-length}
+use Rattle.amoebot_state.specs.Steps.{Run}
+use Rattle.amoebot_state.proofs.Runs.{run_push}
+use Rattle.serial_model.specs.Replays.{RunIn}
+use Rattle.commands.specs.Replay.{at_end}
+use Rattle.commands.proofs.ToldEntries.{told_more, stops}
+use Rattle.commands.proofs.renewing.follow_all.Goals as goal
+
+pub returns-in-None : goal.returns-in-None
+returns-in-None g c =
+    let below : c.loop-place.place < length c.args.entries.now = omega arith in
+    let run : RunIn g.E.EntryForm.form (g.D.Decider.verdict c.args.decider.now) c.args.start (take c.loop-place.place c.args.entries.now) c.loop-place.serial = record { source = c.loop-place.followed.items; tells = c.loop-place.invariant.tells; holds = c.loop-place.invariant.run } in
+    stops g.E.EntryForm.form c.args.entries.now (g.D.Decider.verdict c.args.decider.now) c.args.start c.loop-place.serial c.args.last.now c.index-entries-place.result c.loop-place.place below c.index-entries-place.is run c.in-None.ensures.none
+
+pub loop-place-preserved : goal.loop-place-preserved
+loop-place-preserved g c =
+    let f = g.D.Decider.verdict c.args.decider.now in
+    let below : c.loop-place.place < length c.args.entries.now = omega arith in
+    let es = c.loop-place.followed.items in
+    let items = c.in_ok-push-in-Some.ensures.items in
+    record {
+      tells = ap (map g.E.EntryForm.form) items ∙ told_more g.E.EntryForm.form c.args.entries.now es c.in-Some.entry c.index-entries-place.result c.loop-place.place below c.index-entries-place.is c.loop-place.invariant.tells c.in-Some.ensures.told;
+      run = subst (λ ds. Run f c.args.start ds c.follow_in.new.self) (sym items) (run_push f c.args.start c.loop-place.serial c.follow_in.new.self es c.in-Some.entry c.loop-place.invariant.run c.in-Some.ensures.step);
+      size = c.follow_in.ensures.size ∙ c.loop-place.invariant.size;
+    }
+
+pub returns-else-same : goal.returns-else-same
+returns-else-same g c =
+    let end : c.loop-place.place ≡ length c.args.entries.now = omega arith in
+    let tells = c.loop-place.invariant.tells ∙ ap (λ n. take n c.args.entries.now) end ∙ take-length c.args.entries.now in
+    at_end c.loop-place.serial (record { source = c.loop-place.followed.items; tells = tells; holds = c.loop-place.invariant.run }) (λ same. false≢true (sym c.if-same.false ∙ c.same.ensures.1 (c.world.ensures ∙ same)))

@@ -1,0 +1,27 @@
+use Rattle.std.proofs.Common.{subst}
+use Rattle.std.proofs.lemmas.Result.{IfOk-weaker}
+use Rattle.amoebot_state.specs.Configs.{Config}
+use Rattle.action_eval.proofs.SharedRunner.{runner_sync}
+use Rattle.action_meaning.specs.Verdicts.{verdict_shown}
+use Rattle.serial_model.specs.Forms.{full_entry}
+use Rattle.serial_model.proofs.Runs.{full_entries, full_is_itself}
+use Rattle.commands.specs.Replay.{AgreesIn, DiffersAt}
+use Rattle.commands.specs.Told.{of_agreeing, of_differing}
+use Rattle.commands.proofs.of_renew.renew_full.Goals as goal
+
+pub compare-requires-sync-D : goal.compare-requires-sync-D
+compare-requires-sync-D c κs = record { shared = runner_sync.shared }
+
+pub returns-in-Ok : goal.returns-in-Ok
+returns-in-Ok c =
+    let f = verdict_shown c.args.runner.now in
+    let es = c.args.entries.now in
+    let agrees = subst (λ (w : Config). AgreesIn full_entry f w es c.args.last.now) c.in_ok-taken.ensures c.in-Ok.ensures.agrees in
+    let run = (full_is_itself.run f c.args.start.now c.args.last.now es).0 agrees in
+    IfOk-weaker _ _ _ (λ answer is. of_agreeing es (full_entries es) run is) c.renew.ensures
+
+pub returns-in-Err : goal.returns-in-Err
+returns-in-Err c =
+    let place = c.in-Err.differs.place in
+    let differs = subst (λ (w : Config). DiffersAt full_entry (verdict_shown c.args.runner.now) w c.args.entries.now c.args.last.now place) c.in_ok-taken.ensures c.in-Err.ensures.differs in
+    IfOk-weaker _ _ _ (λ answer is. of_differing place differs is) c.differ.ensures

@@ -1,0 +1,151 @@
+-- The table of the commands, the documents of a command, and the numbers of the statuses.
+use Rattle.std.specs.Prelude.{ℕ, List, ⊤}
+use Rattle.std.specs.declared.option.Option.{Option}
+use Rattle.std.specs.declared.option.Option.TheVariants.{Some, None}
+use Rattle.shape_files.specs.declared.section_kind.Form.{Form}
+use Rattle.shape_files.specs.declared.section_kind.Form.TheVariants as form
+use Rattle.shape_files.specs.Documents.{Contents, HasContentsFrom, IsDocumentFaultFrom}
+use Rattle.shape_files.specs.Frame.{least_version}
+use Rattle.text_tokens.specs.declared.refusal.Refusal.{Refusal}
+use Rattle.commands.specs.declared.words.Command.{Command}
+use Rattle.commands.specs.declared.words.Command.TheVariants.{Document, Show, Sample}
+use Rattle.commands.specs.declared.words.DocumentCommand.{DocumentCommand}
+use Rattle.commands.specs.declared.words.DocumentCommand.TheVariants.{Run, Interleave, Replay, Check, Measure, Renew, Rewind, Rounds, Elect, Tickets}
+use Rattle.commands.specs.declared.status.Status.{Status}
+use Rattle.commands.specs.declared.status.Status.TheVariants as status
+
+-- who makes the turns of lists for a command
+pub data TurnMaker : Type 0 where
+  -- the command makes no turns
+  no_maker : TurnMaker
+  -- one step of a caller after another, along a schedule
+  the_schedule : TurnMaker
+  -- a worker for each list
+  the_workers : TurnMaker
+  -- a worker for each list, whose commits draw their places
+  the_tickets : TurnMaker
+
+-- what the table says of a command that reads a document
+pub record CommandRow : Type 0 where
+  -- the form of its document
+  pub form : Form
+  -- the least version of its document
+  pub least : ℕ
+  -- the most bytes that its document may have
+  pub limit : ℕ
+  pub maker : TurnMaker
+
+-- a mebibyte, and 128 of them for a document that may have a journal
+abbrev pub mebibyte : ℕ
+mebibyte = 1048576
+
+abbrev pub many_mebibytes : ℕ
+many_mebibytes = 134217728
+
+-- the least version whose journals have old values
+abbrev pub with_old_values : ℕ
+with_old_values = 3
+
+-- the table
+abbrev pub row_of : DocumentCommand → CommandRow
+row_of Run = record { form = form.Run; least = least_version; limit = mebibyte; maker = the_workers }
+row_of Interleave = record { form = form.Interleave; least = least_version; limit = mebibyte; maker = the_schedule }
+row_of Replay = record { form = form.Replay; least = least_version; limit = many_mebibytes; maker = no_maker }
+row_of Check = record { form = form.Check; least = least_version; limit = mebibyte; maker = no_maker }
+row_of Measure = record { form = form.Measure; least = least_version; limit = many_mebibytes; maker = no_maker }
+row_of Renew = record { form = form.Replay; least = least_version; limit = many_mebibytes; maker = no_maker }
+row_of (Rewind place) = record { form = form.Replay; least = with_old_values; limit = many_mebibytes; maker = no_maker }
+row_of Rounds = record { form = form.Replay; least = least_version; limit = many_mebibytes; maker = no_maker }
+row_of Elect = record { form = form.Replay; least = least_version; limit = many_mebibytes; maker = no_maker }
+row_of Tickets = record { form = form.Run; least = least_version; limit = mebibyte; maker = the_tickets }
+
+-- the form of a command's document
+abbrev pub form_of : DocumentCommand → Form
+form_of c = (row_of c).form
+
+-- and the least version that it may have
+abbrev pub least_for : DocumentCommand → ℕ
+least_for c = (row_of c).least
+
+-- the bytes are a document of the command, in its form and of a version that it may have, and the document has this
+abbrev pub IsDocumentOf : DocumentCommand → List ℕ → Contents → Type 0
+IsDocumentOf c bytes a = HasContentsFrom (least_for c) (form_of c) bytes a
+
+-- they are none, and this is their first fault
+abbrev pub IsDocumentFaultOf : DocumentCommand → List ℕ → Refusal → Type 0
+IsDocumentFaultOf c bytes r = IsDocumentFaultFrom (least_for c) (form_of c) bytes r
+
+-- the most bytes that are read for a command
+abbrev pub limit_for : Option Command → ℕ
+limit_for (Some (Document c)) = (row_of c).limit
+limit_for (Some (Show program)) = 0
+limit_for (Some (Sample seed)) = 0
+limit_for None = 0
+
+-- nothing is read for it
+abbrev pub ReadsNothing : Option Command → Type 0
+ReadsNothing (Some (Document c)) = ⊥
+ReadsNothing (Some (Show program)) = ⊤
+ReadsNothing (Some (Sample seed)) = ⊤
+ReadsNothing None = ⊤
+
+-- who makes its turns
+abbrev pub maker_of : Option Command → TurnMaker
+maker_of (Some (Document c)) = (row_of c).maker
+maker_of (Some (Show program)) = no_maker
+maker_of (Some (Sample seed)) = the_workers
+maker_of None = no_maker
+
+-- somebody makes them
+abbrev pub SomebodyMakes : TurnMaker → Type 0
+SomebodyMakes no_maker = ⊥
+SomebodyMakes the_schedule = ⊤
+SomebodyMakes the_workers = ⊤
+SomebodyMakes the_tickets = ⊤
+
+-- workers make them, and take the journal for each commit
+abbrev pub AreWorkers : TurnMaker → Type 0
+AreWorkers no_maker = ⊥
+AreWorkers the_schedule = ⊥
+AreWorkers the_workers = ⊤
+AreWorkers the_tickets = ⊥
+
+-- workers make them, whose commits draw their places
+abbrev pub AreTickets : TurnMaker → Type 0
+AreTickets no_maker = ⊥
+AreTickets the_schedule = ⊥
+AreTickets the_workers = ⊥
+AreTickets the_tickets = ⊤
+
+-- workers make them in either way
+abbrev pub HaveWorkers : TurnMaker → Type 0
+HaveWorkers no_maker = ⊥
+HaveWorkers the_schedule = ⊥
+HaveWorkers the_workers = ⊤
+HaveWorkers the_tickets = ⊤
+
+-- the command makes the turns of lists: those of a document, or those of a sample
+abbrev pub MakesTurns : Option Command → Type 0
+MakesTurns c = SomebodyMakes (maker_of c)
+
+-- workers make them, and take the journal for each commit
+abbrev pub IsWorked : Option Command → Type 0
+IsWorked c = AreWorkers (maker_of c)
+
+-- workers make them, whose commits draw their places
+abbrev pub IsTicketed : Option Command → Type 0
+IsTicketed c = AreTickets (maker_of c)
+
+-- workers make them in either way
+abbrev pub NeedsWorkers : Option Command → Type 0
+NeedsWorkers c = HaveWorkers (maker_of c)
+
+-- the number with which the program ends
+abbrev pub status_number : Status → ℕ
+status_number status.Done = 0
+status_number status.Words = 2
+status_number (status.Refused refusal) = 3
+status_number status.ReadFault = 4
+status_number status.WriteFault = 5
+status_number status.NoMemory = 6
+status_number (status.Differs place) = 7

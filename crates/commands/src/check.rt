@@ -1,0 +1,53 @@
+//! The command `check`: the program of a document is printed.
+
+ghost use Rattle.std.specs.Prelude.{◌≡◌, IfOk, IsSome, Some};
+ghost use Rattle.shape_files.specs.Fitting.{Fits};
+ghost use Rattle.shape_files.specs.Views.{contents};
+ghost use Rattle.commands.specs.Answers.{IsAnswerTo};
+ghost use Rattle.commands.specs.Commands.{form_of};
+ghost use Rattle.commands.specs.Check.{check_text};
+ghost use Rattle.commands.specs.ReportLaws.{CanonMeansTheSame};
+
+use crate::answer::{Answer, done};
+use crate::words::DocumentCommand;
+use action_check::Checked;
+use action_print::put_program;
+use action_tree::Program;
+use amoebot_state::NoMemory;
+use shape_files::Parts;
+use std::alloc::Global;
+use text_tokens::{Lines, Text};
+
+/// The program is printed in its canonical form, under the version of its document.
+pub(crate) fn answer_check(alloc: Global, parts: Parts) -> Result<Answer, NoMemory>
+    requires { Fits (form_of DocumentCommand.Check) (contents parts) }
+    ensures { IfOk result (IsAnswerTo DocumentCommand.Check (contents parts)) }
+{
+    let version = parts.version;
+    let checked = checked_of(parts);
+    let text = print_check(alloc, version, checked.program())?;
+    Ok(done(text))
+}
+
+/// The program.
+fn checked_of(parts: Parts) -> Checked
+    requires { IsSome (contents parts).checked }
+    ensures { (contents parts).checked ≡ Some result }
+{
+    parts.checked.unwrap()
+}
+
+/// The canonical text of a program, under the first line of a document of this version.
+pub fn print_check(alloc: Global, version: u8, program: &Program) -> Result<Text, NoMemory>
+    ensures { IfOk result (λ text. text ≡ check_text version program.now) }
+{
+    let mut lines = Lines::new(alloc);
+    put_number(&mut lines, "amoebot", version)?;
+    put_program(&mut lines, program)?;
+    Ok(lines.text())
+}
+
+/// The canonical text of a program that keeps the rules is read as a program that keeps them too, and has the same verdict.
+pub fn canon_means_the_same()
+    ensures { CanonMeansTheSame }
+{}

@@ -1,0 +1,86 @@
+//! The command `interleave`: the steps of a document's schedule are made.
+
+ghost use Rattle.std.specs.Prelude.{IfOk, ◌≡◌, ◌<◌, length, reverse};
+ghost use Rattle.shape_files.specs.Fitting.{Fits};
+ghost use Rattle.shape_files.specs.Views.{contents};
+ghost use Rattle.commands.specs.Answers.{IsAnswerTo};
+ghost use Rattle.commands.specs.Commands.{form_of};
+ghost use Rattle.std.specs.List.{All};
+ghost use Rattle.claim_core.specs.Turns.{HaveBots};
+ghost use Rattle.claim_core.specs.Machine.{after};
+ghost use Rattle.claim_core.specs.Cores.{opening_core, setup_of};
+ghost use Rattle.commands.specs.Interleave.{IsInterleaveReport};
+ghost use Rattle.commands.specs.ReportLaws.{InterleaveReportIsOne, ScheduleHasOneReport};
+
+use crate::answer::Answer;
+use crate::report::answer_report;
+use crate::words::DocumentCommand;
+use action_eval::Runner;
+use amoebot_state::{Decider, NoMemory, World};
+use claim_core::{Core, Lists, Report, state_has_one_report};
+use schedule_text::Schedule;
+use shape_files::Parts;
+use std::alloc::Global;
+
+/// The steps of the schedule are made, and then rounds, and the text of the report is made.
+pub(crate) fn answer_interleave(alloc: Global, parts: Parts) -> Result<Answer, NoMemory>
+    requires { Fits (form_of DocumentCommand.Interleave) (contents parts) }
+    ensures { IfOk result (IsAnswerTo DocumentCommand.Interleave (contents parts)) }
+{
+    let Parts {
+        version,
+        checked,
+        world,
+        lists,
+        schedule,
+        ..
+    } = parts;
+    let checked = checked.unwrap();
+    let lists = lists.unwrap();
+    let schedule = schedule.unwrap();
+    let vars = checked.vars();
+    let runner = Runner::new(checked);
+    let report = run_interleaved(alloc, &runner, world.unwrap(), &lists, &schedule)?;
+    answer_report(alloc, version, report, vars)
+}
+
+/// Makes one step of each caller of the schedule in turn, and then rounds of one step for each caller in rising number, until all
+/// have ended.
+///
+/// All memory is taken before the first step.
+pub fn run_interleaved<D: Decider>(
+    alloc: Global,
+    decider: &D,
+    world: World,
+    lists: &Lists,
+    schedule: &Schedule,
+) -> Result<Report, NoMemory>
+    requires bots { HaveBots (length world.bots) lists.now }
+    requires callers { All (λ caller. caller < length lists.now.ids) schedule.now }
+    ensures { IfOk result (λ report. IsInterleaveReport (D.verdict decider.now) world lists.now schedule.now report) }
+{
+    world.keeps();
+    let mut core = Core::make(alloc, decider, world, lists)?;
+    step_all(&mut core, schedule);
+    core.finish();
+    Ok(core.report())
+}
+
+/// One step of each of the callers, one after another.
+fn step_all<D: Decider>(core: &mut Core<'_, D>, schedule: &Schedule)
+    requires callers { All (λ caller. caller < length core.old.state.callers) schedule.now }
+    requires opening { core.old ≡ opening_core D.verdict core.old.decider core.old.first core.old.lists }
+    ensures { core.new ≡ record core.old { state = after (setup_of D.verdict core.old) (reverse schedule.now) } }
+{
+    for number in 0..schedule.steps() {
+        core.step(schedule.step(number));
+    }
+}
+
+/// A schedule gives at most one report, and one text of it.
+pub fn interleave_report_is_one()
+    ensures report { ScheduleHasOneReport }
+    ensures text { InterleaveReportIsOne }
+{
+    state_has_one_report();
+}

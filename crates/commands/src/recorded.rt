@@ -1,0 +1,76 @@
+//! What a document has of a run that it records, as the commands that look at its journal take it.
+
+ghost use Rattle.std.specs.Prelude.{◌≡◌, length};
+ghost use Rattle.shape_files.specs.Fitting.{Fits};
+ghost use Rattle.shape_files.specs.Views.{contents};
+ghost use Rattle.commands.specs.Commands.{form_of};
+ghost use Rattle.commands.specs.Told.{HasItsJournal, IsOfBots, full_of};
+
+use crate::words::DocumentCommand;
+use action_eval::Runner;
+use amoebot_state::World;
+use journal_text::{Entries, PlainEntries};
+use shape_files::Parts;
+
+/// The journal of a document.
+#[derive(Drop)]
+pub(crate) enum Journal {
+    /// With the old values of each patch.
+    Full(Entries),
+    /// Without them.
+    Plain(PlainEntries),
+}
+
+impl Journal {
+    /// The entries with their old values, if it has them.
+    pub(crate) fn full(self) -> Option<Entries>
+        ensures { result ≡ full_of self }
+    {
+        match self {
+            Journal::Full(full) => Some(full),
+            Journal::Plain(_) => None,
+        }
+    }
+}
+
+/// The program, the shape at the start, the final shape, and the journal.
+#[derive(Drop)]
+pub(crate) struct Recorded {
+    pub runner: Runner,
+    pub start: World,
+    pub last: World,
+    pub journal: Journal,
+}
+
+/// What a document has that a command with a journal looks at. The amoebots of the entries are the start's.
+pub(crate) fn recorded_in(parts: Parts) -> Recorded
+    requires { Fits (form_of DocumentCommand.Replay) (contents parts) }
+    ensures program { (contents parts).checked ≡ Some result.runner }
+    ensures start { (contents parts).world ≡ Some result.start }
+    ensures last { (contents parts).final_world ≡ Some result.last }
+    ensures entries { (contents parts).entries ≡ full_of result.journal }
+    ensures journal { HasItsJournal (contents parts) result.journal }
+    ensures bots { IsOfBots (length result.start.bots) result.journal }
+{
+    let Parts {
+        checked,
+        world,
+        entries,
+        plain,
+        final_world,
+        ..
+    } = parts;
+    let runner = Runner::new(checked.unwrap());
+    let start = world.unwrap();
+    let last = final_world.unwrap();
+    let journal = match entries {
+        Some(full) => Journal::Full(full),
+        None => Journal::Plain(plain.unwrap()),
+    };
+    Recorded {
+        runner,
+        start,
+        last,
+        journal,
+    }
+}

@@ -1,0 +1,100 @@
+//! The text of a report, and the answers that have one.
+
+ghost use Rattle.std.specs.Prelude.{◌≡◌, ◌≤◌, ◌++◌, length, IfOk, OnOk};
+ghost use Rattle.amoebot_state.specs.Limits.{most_vars};
+ghost use Rattle.commands.specs.Reports.{report_text};
+ghost use Rattle.journal_text.specs.Texts.{journal_of_version};
+ghost use Rattle.claim_core.specs.Good.{Good};
+ghost use Rattle.action_meaning.specs.Verdicts.{verdict_shown};
+ghost use Rattle.commands.specs.Answers.{IsCounted, TellsReport, done_with};
+
+use crate::answer::{Answer, Telling};
+use crate::status::Status;
+use action_eval::Runner;
+use amoebot_state::{Entry, NoMemory};
+use claim_core::{Lists, Report};
+use journal_text::{put_journal, put_plain, put_turns};
+use node_text::has_old_values;
+use shape_text::put_shape;
+use std::alloc::{AllocError, Global};
+use text_tokens::{Lines, Text};
+
+/// The text of a run as a document of the version has it: the sections `journal`, `final` and `turns`, where an amoebot has the values
+/// of so many variables, at most 8.
+pub fn print_report(alloc: Global, version: u8, report: &Report, vars: u8) -> Result<Text, NoMemory>
+    requires { vars ≤ most_vars }
+    ensures { IfOk result (λ text. text ≡ report_text version vars report.now) }
+{
+    let mut lines = Lines::new(alloc);
+    put_entries(&mut lines, version, report.journal.entries(), vars)?;
+    put_shape(&mut lines, "final", &report.world, vars)?;
+    put_turns(&mut lines, &report.turns)?;
+    Ok(lines.text())
+}
+
+/// The section `journal` as a document of the version has it.
+fn put_entries(
+    lines: &mut Lines,
+    version: u8,
+    entries: &[Entry],
+    vars: u8,
+) -> Result<(), AllocError>
+    requires { vars ≤ most_vars }
+    ensures { OnOk result (lines.new ≡ lines.old ++ journal_of_version version vars entries.now) }
+{
+    if has_old_values(version) {
+        put_journal(lines, entries, vars)
+    } else {
+        put_plain(lines, entries, vars)
+    }
+}
+
+/// The answer that has a good report of the lists' turns, with the text that such a run gets.
+pub fn tell(
+    alloc: Global,
+    telling: Telling,
+    runner: &Runner,
+    lists: &Lists,
+    report: Report,
+) -> Result<Answer, NoMemory>
+    requires good { Good (verdict_shown runner.now) report.journal.first lists.now report }
+    requires few { IsCounted telling report }
+    ensures { IfOk result (TellsReport telling runner.now lists.now report) }
+{
+    match telling {
+        Telling::Report(version) => tell_report(alloc, version, runner, report),
+        Telling::Sample(seed) => tell_sample(alloc, seed, runner, lists, report),
+    }
+}
+
+/// The answer that tells a report of a program's run in a version.
+fn tell_report(
+    alloc: Global,
+    version: u8,
+    runner: &Runner,
+    report: Report,
+) -> Result<Answer, NoMemory>
+    ensures { IfOk result (λ a. a ≡ done_with version (length runner.now.vars) report) }
+{
+    let checked = runner.checked();
+    checked.program();
+    answer_report(alloc, version, report, checked.vars())
+}
+
+/// The answer that tells a report in a version, where an amoebot has the values of so many variables.
+pub(crate) fn answer_report(
+    alloc: Global,
+    version: u8,
+    report: Report,
+    vars: u8,
+) -> Result<Answer, NoMemory>
+    requires { vars ≤ most_vars }
+    ensures { IfOk result (λ a. a ≡ done_with version vars report) }
+{
+    let text = print_report(alloc, version, &report, vars)?;
+    Ok(Answer {
+        status: Status::Done,
+        report: Some(report),
+        text,
+    })
+}

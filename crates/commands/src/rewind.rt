@@ -1,0 +1,92 @@
+//! The command `rewind`: the shape at a place of a journal, seen from the final shape.
+
+ghost use Rattle.std.specs.Prelude.{◌≡◌, ◌<◌, ◌≤◌, IfOk, length};
+ghost use Rattle.std.specs.List.{All};
+ghost use Rattle.serial_model.specs.Replays.{AreCountable};
+ghost use Rattle.shape_files.specs.Fitting.{Fits};
+ghost use Rattle.shape_files.specs.Views.{contents};
+ghost use Rattle.commands.specs.Answers.{IsAnswerTo, unwound_with};
+ghost use Rattle.commands.specs.Commands.{form_of, least_for};
+ghost use Rattle.commands.specs.Lines.{no_such_place};
+ghost use Rattle.commands.specs.Told.{TellsBack};
+ghost use Rattle.commands.specs.RewindLaws.{RewindUndoesReplay};
+
+use crate::answer::{Answer, differ, done, refuse};
+use crate::recorded::{Recorded, recorded_in};
+use crate::words::DocumentCommand;
+use action_eval::Runner;
+use amoebot_state::{Entry, NoMemory, World};
+use rewind_log::unwind;
+use shape_files::{Parts, documents_are_sound, least_versions_are_kept};
+use shape_text::print_shape;
+use std::alloc::Global;
+use text_tokens::{Refusal, RefusalKind};
+
+/// The shape at the place, to which the entries behind it are gone back over. Of the first shape the area, the walls and the number
+/// of amoebots count alone.
+pub(crate) fn answer_rewind(alloc: Global, place: u32, parts: Parts) -> Result<Answer, NoMemory>
+    requires fits { Fits (form_of (DocumentCommand.Rewind place)) (contents parts) }
+    requires least { least_for (DocumentCommand.Rewind place) ≤ (contents parts).version }
+    ensures { IfOk result (IsAnswerTo (DocumentCommand.Rewind place) (contents parts)) }
+{
+    let Recorded {
+        runner,
+        start,
+        last,
+        journal,
+    } = recorded_in(parts);
+    let full = journal.full().unwrap();
+    let entries = full.entries();
+    if (place as usize) > entries.len() {
+        return refuse(alloc, bad_place());
+    }
+    rewind_to(alloc, &runner, &start, last, entries, place)
+}
+
+/// The answer to a place that the journal has.
+fn rewind_to(
+    alloc: Global,
+    runner: &Runner,
+    start: &World,
+    last: World,
+    entries: &[Entry],
+    place: u32,
+) -> Result<Answer, NoMemory>
+    requires there { All (λ e. e.bot < length start.now.bots) entries.now }
+    requires few { AreCountable entries.now }
+    requires within { place ≤ length entries.now }
+    ensures { IfOk result (TellsBack runner.now start.now last entries.now place) }
+{
+    match unwind(runner, start, last, entries, place) {
+        Ok(shape) => show_shape(alloc, runner, &shape),
+        Err(differs) => differ(alloc, differs.place),
+    }
+}
+
+/// The journal has no such place.
+fn bad_place() -> Refusal
+    ensures { result ≡ no_such_place }
+{
+    Refusal {
+        line: 0,
+        kind: RefusalKind::BadPlace,
+    }
+}
+
+/// The answer that is the section of a shape.
+fn show_shape(alloc: Global, runner: &Runner, shape: &World) -> Result<Answer, NoMemory>
+    ensures { IfOk result (λ a. a ≡ unwound_with (length runner.now.vars) shape.now) }
+{
+    let checked = runner.checked();
+    checked.program();
+    let text = print_shape(alloc, "shape", shape, checked.vars())?;
+    Ok(done(text))
+}
+
+/// Where the journal of a document is a run from its shape to its final shape, `rewind` owes the shape that the run has at the place.
+pub fn rewind_undoes_replay()
+    ensures { RewindUndoesReplay }
+{
+    documents_are_sound();
+    least_versions_are_kept();
+}
