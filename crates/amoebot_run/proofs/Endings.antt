@@ -16,17 +16,21 @@ use Rattle.commands.specs.declared.words.DocumentCommand.{DocumentCommand}
 use Rattle.commands.specs.declared.status.Status.{Status}
 use Rattle.commands.specs.declared.status.Status.TheVariants as status
 use Rattle.commands.specs.Commands.{IsDocumentOf, MakesTurns, ReadsNothing}
-use Rattle.commands.specs.OfSample.{six_lines}
+use Rattle.commands.specs.Sample.{six_lines}
 use Rattle.text_tokens.specs.Kinds.{name}
 use Rattle.commands.specs.Lines.{refusal_line, too_long}
 use Rattle.commands.specs.Laws.{OwedIsOne, SameOwed, DocumentsHaveOutcomes, ReportsAreOfTurns, ReportsAreOfDocuments, ReportsAreOfSamples}
 use Rattle.commands.specs.Reads.{Read, nothing, whole, above, up_to_fault, some}
-use Rattle.commands.specs.Outcomes.{IsOutcome, of_run, of_tickets, of_interleave, agreeing, differing, of_check, of_measure, renewing, renew_differing, no_place, unwound, not_unwound, rounded, not_rounded, no_erosion, not_ready, not_elected, elected}
+use Rattle.commands.specs.Outcomes.{IsOutcome}
 use Rattle.commands.specs.Owed.{IsOwed, usage, read_fault, longer, refused, served, shown, sampled}
 use Rattle.amoebot_run.specs.declared.ended.Ended.{Ended}
 use Rattle.amoebot_run.specs.Clauses.{WroteAll, WroteFront}
 use Rattle.amoebot_run.specs.Endings.{IsEnding, written, cut, wanting, IsReadWithinLimit, IsAnswered, IsOutsideFault, IsUnwritten, IsServed, IsReportOfCall, of_document, of_sample}
 use Rattle.amoebot_run.specs.Parts.{IsEndOfWriting, all, front}
+use Rattle.commands.specs.Recorded.{agreeing, differing}
+use Rattle.commands.specs.Rewind.{no_place, unwound, not_unwound}
+use Rattle.commands.specs.Elect.{no_erosion, not_ready}
+use Rattle.commands.proofs.Outcomes.{served_status, done, refused_as, differs_at}
 
 -- ---- how a call ended, from what was written
 
@@ -65,7 +69,7 @@ ending_maps f g h k command _ _ (wanting read reads within untouched) = wanting 
 
 -- ---- the report
 
-no_report : (s : Status) (P : Type 0) → ((s ≡ status.Done) → ⊥) → IsSome {T = Report} None ↔ ((s ≡ status.Done) × P)
+pub no_report : (s : Status) (P : Type 0) → ((s ≡ status.Done) → ⊥) → IsSome {T = Report} None ↔ ((s ≡ status.Done) × P)
 no_report s P never = ((λ t. absurd (false≢true t)), λ e. absurd (never e.0))
 
 pub reported : ReportsAreOfTurns → {Reads : Read → Type 0} {Writes Cuts : List ℕ → Type 0} {Untouched : Type 0} (command : Option Command) (s : Status) (report : Option Report) → IsEnding command Reads Writes Cuts Untouched s report → IsSome report ↔ ((s ≡ status.Done) × MakesTurns command)
@@ -194,24 +198,11 @@ Cause command read status.NoMemory = ⊥
 Cause command read s = ⊤
 
 cause_of_outcome : (a : Contents) (c : DocumentCommand) (bytes : List ℕ) (s : Status) (report : Option Report) (text : List ℕ) → IsOutcome a c s report text → Cause (Some (Document c)) (whole bytes) s
-cause_of_outcome a c bytes s report text (of_run d r run) = tt
-cause_of_outcome a c bytes s report text (of_tickets d r run) = tt
-cause_of_outcome a c bytes s report text (of_interleave d schedule r its_schedule run) = tt
-cause_of_outcome a c bytes s report text (agreeing d es agrees) = tt
-cause_of_outcome a c bytes s report text (differing d place differs) = tt
-cause_of_outcome a c bytes s report text (of_check p its_program) = tt
-cause_of_outcome a c bytes s report text (of_measure last t its_last measures) = tt
-cause_of_outcome a c bytes s report text (renewing d es agrees) = tt
-cause_of_outcome a c bytes s report text (renew_differing d place differs) = tt
-cause_of_outcome a c bytes s report text (no_place d es place its_journal past) = tt
-cause_of_outcome a c bytes s report text (unwound d es place world its_journal within is) = tt
-cause_of_outcome a c bytes s report text (not_unwound d es place k its_journal within is) = tt
-cause_of_outcome a c bytes s report text (rounded d es rounds waiting agrees is) = tt
-cause_of_outcome a c bytes s report text (not_rounded d place differs) = tt
-cause_of_outcome a c bytes s report text (no_erosion d other) = tt
-cause_of_outcome a c bytes s report text (not_ready d is other) = tt
-cause_of_outcome a c bytes s report text (not_elected d place is ready differs) = tt
-cause_of_outcome a c bytes s report text (elected d es is ready agrees) = tt
+cause_of_outcome a c bytes s report text is = elim (served_status c a s report text is) [
+  | done same ↦ subst (Cause (Some (Document c)) (whole bytes)) (sym same) tt
+  | refused_as r same ↦ subst (Cause (Some (Document c)) (whole bytes)) (sym same) tt
+  | differs_at place same ↦ subst (Cause (Some (Document c)) (whole bytes)) (sym same) tt
+]
 
 cause_of : (command : Option Command) (read : Read) (s : Status) (report : Option Report) (text : List ℕ) → IsOwed command read s report text → Cause command read s
 cause_of command read s report text usage = refl

@@ -25,7 +25,7 @@ use Rattle.amoebot_run.specs.declared.ended.Ended.{Ended}
 use Rattle.amoebot_run.specs.declared.making.Made.{Made}
 use Rattle.amoebot_run.specs.Clauses.{WroteAll, WroteFront}
 use Rattle.amoebot_run.specs.Endings.{IsEnding, wanting, IsReadWithinLimit}
-use Rattle.amoebot_run.specs.Parts.{IsEndOfWriting, IsBegun, has_ended, is_to_run, IsMade, IsEndedRun, told, untold}
+use Rattle.amoebot_run.specs.Parts.{IsEndOfWriting, IsBegun, has_ended, is_to_run, IsMade, IsEndedRun, told, untold, journal_turns, ticket_turns}
 use Rattle.amoebot_run.proofs.Endings.{ending_of, ending_maps, without}
 use Rattle.amoebot_run.proofs.WorkingLemmas.{HasItsTurns, line_turns, none_told, told_by_maker, turns_of, without_turns}
 
@@ -92,10 +92,10 @@ module _ {command : Option Command} {Reads : Read → Type 0} {Writes Cuts : Lis
 
 -- the text of an answer that tells the report was written
 pub told_by : {K : Type 0} {sink : SinkOf K} {old new : K} (t : Telling) (p : Program) (lists : CallerLists) (made : Made) (answer : Answer) (ended : Ended)
-    → TellsReport t p lists made.report answer → IsEndOfWriting sink old new answer.status answer.report made.turns made.tickets answer.text ended
+    → TellsReport t p lists made.report answer → IsEndOfWriting sink old new answer.status answer.report (journal_turns made.turns) (ticket_turns made.turns) answer.text ended
     → IsEndedRun sink old new (Tells t p lists made.report) made ended
 told_by {sink = sink} {old = old} {new = new} t p lists made answer ended is writes =
-    told answer.text ended is.text (subst (λ (z : Status × Option Report). IsEndOfWriting sink old new z.0 z.1 made.turns made.tickets answer.text ended) (λ i. (is.done i, is.its_report i)) writes)
+    told answer.text ended is.text (subst (λ (z : Status × Option Report). IsEndOfWriting sink old new z.0 z.1 (journal_turns made.turns) (ticket_turns made.turns) answer.text ended) (λ i. (is.done i, is.its_report i)) writes)
 
 pub untold_by : {K : Type 0} {sink : SinkOf K} {old new : K} (Text : List ℕ → Type 0) (made : Made) (ended : Ended)
     → new ≡ old → ended ≡ record { status = status.NoMemory; report = None; turns = None; tickets = None } → IsEndedRun sink old new Text made ended
@@ -111,7 +111,7 @@ module _ {K : Type 0} (sink : SinkOf K) {Reads : Read → Type 0} (command : Opt
     (made : Made) (is : IsMade run.maker run.runner run.world run.lists made) where
   finished_at : (ended : Ended) → IsEndedRun sink old new (Tells run.telling run.runner run.lists made.report) made ended
       → IsEnding command Reads (WroteAll sink old new) (WroteFront sink old new) (new ≡ old) ended.status ended.report
-  finished_at _ (told text ended tells writes) = ending_of ready.read status.Done (Some made.report) made.turns made.tickets text ended ready.reads (ready.prepared.owed made.report text is.good is.reached tells) writes
+  finished_at _ (told text ended tells writes) = ending_of ready.read status.Done (Some made.report) (journal_turns made.turns) (ticket_turns made.turns) text ended ready.reads (ready.prepared.owed made.report text is.good is.reached tells) writes
   finished_at _ (untold same) = wanting ready.read ready.reads ready.within same
 
   -- how the call ends, where workers left a report
@@ -121,7 +121,7 @@ module _ {K : Type 0} (sink : SinkOf K) {Reads : Read → Type 0} (command : Opt
 
   -- and which turns it has
   pub finished_turns : (ended : Ended) → IsEndedRun sink mid new (Tells run.telling run.runner run.lists made.report) made ended → HasItsTurns command ended
-  finished_turns _ (told text ended tells writes) = turns_of command status.Done (Some made.report) made.turns made.tickets text ended (told_by_maker command run.maker made ready.prepared.its_maker is.told) writes
+  finished_turns _ (told text ended tells writes) = turns_of command status.Done (Some made.report) (journal_turns made.turns) (ticket_turns made.turns) text ended (told_by_maker command run.maker made.report made.turns ready.prepared.its_maker is.told) writes
   finished_turns _ (untold same) = none_told command status.NoMemory None (λ done needs. cc)
 
 -- how it ends, where workers were out of memory

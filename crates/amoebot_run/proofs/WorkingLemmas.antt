@@ -15,7 +15,9 @@ use Rattle.commands.specs.Answers.{turn_maker}
 use Rattle.commands.specs.Commands.{AreTickets, AreWorkers, HaveWorkers, IsTicketed, IsWorked, NeedsWorkers, TurnMaker, maker_of, no_maker, the_schedule, the_workers, the_tickets}
 use Rattle.amoebot_run.specs.declared.ended.Ended.{Ended}
 use Rattle.amoebot_run.specs.declared.making.Made.{Made}
-use Rattle.amoebot_run.specs.Parts.{HasTold, IsEndOfWriting, all, front}
+use Rattle.amoebot_run.specs.declared.making.MadeTurns.{MadeTurns}
+use Rattle.amoebot_run.specs.declared.making.MadeTurns.TheVariants as turned
+use Rattle.amoebot_run.specs.Parts.{HasTold, IsEndOfWriting, all, front, journal_turns, ticket_turns}
 use Rattle.amoebot_run.specs.Working.{HasTickets, HasTurns}
 
 -- what became of the turns comes where it has to
@@ -57,15 +59,17 @@ none_told c s report never = record {
 -- ---- calls that have some
 
 -- what workers have made has them where it has to
-pub told_by_maker : (c : Option Command) (m : Maker) (made : Made) → maker_of c ≡ turn_maker m → HasTold m made → HasBoth c status.Done (Some made.report) made.turns made.tickets
-told_by_maker c maker.Workers made its (turns, there, none, marked) = record {
-  turns_there = subst (HasTurns c status.Done (Some made.report)) (sym there) (record { exactly = ((λ some. (refl, subst AreWorkers (sym its) tt)), λ both. refl); marked = (made.report, refl, marked) });
-  tickets_there = subst (HasTickets c status.Done (Some made.report)) (sym none) (no_tickets c status.Done (Some made.report) (λ done are. subst AreTickets its are));
+pub told_by_maker : (c : Option Command) (m : Maker) (report : Report) (turns : MadeTurns) → maker_of c ≡ turn_maker m → HasTold m report.turns turns → HasBoth c status.Done (Some report) (journal_turns turns) (ticket_turns turns)
+told_by_maker c maker.Workers report (turned.Journal turns) its marked = record {
+  turns_there = record { exactly = ((λ some. (refl, subst AreWorkers (sym its) tt)), λ both. refl); marked = (report, refl, marked) };
+  tickets_there = no_tickets c status.Done (Some report) (λ done are. subst AreTickets its are);
 }
-told_by_maker c maker.Tickets made its (tickets, none, there, marked) = record {
-  turns_there = subst (HasTurns c status.Done (Some made.report)) (sym none) (no_turns c status.Done (Some made.report) (λ done are. subst AreWorkers its are));
-  tickets_there = subst (HasTickets c status.Done (Some made.report)) (sym there) (record { exactly = ((λ some. (refl, subst AreTickets (sym its) tt)), λ both. refl); marked = (made.report, refl, marked) });
+told_by_maker c maker.Tickets report (turned.Tickets tickets) its marked = record {
+  turns_there = no_turns c status.Done (Some report) (λ done are. subst AreWorkers its are);
+  tickets_there = record { exactly = ((λ some. (refl, subst AreTickets (sym its) tt)), λ both. refl); marked = (report, refl, marked) };
 }
+told_by_maker c maker.Workers report (turned.Tickets tickets) its marked = absurd marked
+told_by_maker c maker.Tickets report (turned.Journal turns) its marked = absurd marked
 
 -- a call has the turns of what it has written
 pub turns_of : {K : Type 0} {sink : SinkOf K} {old new : K} (c : Option Command) (s : Status) (report : Option Report) (turns : Option (List (List (Turn ByJournal)))) (tickets : Option (List (List (Turn ByTicket)))) (text : List ℕ) (ended : Ended)

@@ -1,5 +1,5 @@
 -- How a call of `run` or `run_text` may end.
-use Rattle.std.specs.Prelude.{◌≡◌, ◌<◌, ◌≤◌, ◌⊎◌, ℕ, List, length, ⊤}
+use Rattle.std.specs.Prelude.{◌≡◌, ◌<◌, ◌≤◌, ◌↔◌, ◌⊎◌, ℕ, List, length, IsSome, ⊤}
 use Rattle.std.specs.declared.option.Option.{Option}
 use Rattle.std.specs.declared.option.Option.TheVariants.{Some, None}
 use Rattle.outer_io.specs.Told.{Grows}
@@ -11,11 +11,13 @@ use Rattle.commands.specs.declared.words.Command.TheVariants.{Document, Sample}
 use Rattle.commands.specs.declared.words.DocumentCommand.{DocumentCommand}
 use Rattle.commands.specs.declared.status.Status.{Status}
 use Rattle.commands.specs.declared.status.Status.TheVariants as status
+use Rattle.commands.specs.Commands.{MakesTurns, ReadsNothing, limit_for}
 use Rattle.commands.specs.Headline.{IsRunOfDocument, IsRunOfSample}
 use Rattle.commands.specs.Laws.{HasOneReport, HasOneText, SameIfAny}
 use Rattle.commands.specs.Outcomes.{IsOutcome}
 use Rattle.commands.specs.Reads.{Read, nothing, whole, above, up_to_fault, some}
 use Rattle.commands.specs.Owed.{IsOwed}
+use Rattle.commands.specs.Sample.{six_lines}
 
 -- no read failed, and no byte above the limit was got
 abbrev pub IsReadWithinLimit : Read → Type 0
@@ -65,6 +67,41 @@ pub record IsAnswered
   pub status : ended ≡ s
   pub told : HasOneReport command read → SameIfAny left report
   pub writes : HasOneText command read → Writes text
+
+-- What the ending of a call comes to, by its command and by what is owed for it.
+-- `Has` says that the input has these bytes, and `Writes` that a text and nothing else was written.
+-- `ReadFails`, `WriteFails` and `Untouched` are the causes of the three statuses that no document owes.
+-- `IsFault` holds of those with which the call may end, and `IsOutage` of those with which it may end without a read.
+pub record EndingTells
+    (command : Option Command) (Has Writes : List ℕ → Type 0) (ReadFails WriteFails Untouched : Type 0)
+    (IsFault IsOutage : Status → Type 0) (ended : Status) (left : Option Report)
+    : Type 0 where
+  -- a report comes exactly with Done of `run`, `interleave`, `tickets` and `sample`
+  pub report : IsSome left ↔ ((ended ≡ status.Done) × MakesTurns command)
+  -- What is owed for the bytes of the input is what the call answers, unless it is out of memory or a read or a write fails:
+  -- the status, and where the input decides what is written, the report and the text.
+  -- With at most one list it does so for `run` and `tickets`.
+  pub determined : (document : List ℕ) (s : Status) (report : Option Report) (text : List ℕ)
+      → Has document
+      → length document ≤ limit_for command
+      → IsOwed command (whole document) s report text
+      → IsAnswered command (whole document) s report text Writes ended left ⊎ IsFault ended
+  -- What is owed where nothing is read is what the call answers; no read can fail there. For `sample` that is the status and the text.
+  pub determined_unread : (s : Status) (report : Option Report) (text : List ℕ)
+      → IsOwed command nothing s report text
+      → IsAnswered command nothing s report text Writes ended left ⊎ IsOutage ended
+  -- where the words are no command, only a write that fails or being out of memory hides that
+  pub words : ended ≡ status.Words → command ≡ None
+  pub no_command : command ≡ None → (ended ≡ status.Words) ⊎ IsOutage ended
+  -- a fault is that of the object that was handed in, and where it was out of memory nothing was written
+  pub read_fault : ended ≡ status.ReadFault → ReadFails
+  pub write_fault : ended ≡ status.WriteFault → WriteFails
+  pub no_memory : ended ≡ status.NoMemory → Untouched
+  -- a command that reads no document is done, and of `sample` the six lines are written
+  pub complete_unread : (c : Command) → command ≡ Some c → ReadsNothing (Some c) → (ended ≡ status.Done) ⊎ IsOutage ended
+  pub sample : (seed : ℕ)
+      → command ≡ Some (Sample seed)
+      → ((ended ≡ status.Done) × Writes (six_lines seed)) ⊎ IsOutage ended
 
 -- What a report comes with: the command, the document that was read to its end, of whose run it is, and its text.
 -- That text was written, and nothing else.

@@ -5,7 +5,7 @@ pub mod Working
 pub use Rattle.action_meaning.specs.Verdicts
 pub use Rattle.claim_core.specs.Good
 pub use Rattle.commands.specs.Commands
-pub use Rattle.commands.specs.OfSample
+pub use Rattle.commands.specs.Sample
 pub use Rattle.commands.specs.Owed
 pub use Rattle.commands.specs.Reads
 pub use Rattle.commands.specs.Syntax

@@ -5,7 +5,7 @@ use Rattle.std.specs.declared.option.Option.TheVariants.{Some, None}
 use Rattle.outer_io.specs.declared.writing.Sink.{Ghosts as SinkOf}
 use Rattle.amoebot_state.specs.Configs.{Config}
 use Rattle.claim_core.specs.declared.report.Report.{Report}
-use Rattle.claim_core.specs.Turns.{CallerLists}
+use Rattle.claim_core.specs.Turns.{CallerLists, MarkLists}
 use Rattle.claim_core.specs.Good.{Good}
 use Rattle.claim_core.specs.Machine.{setup}
 use Rattle.claim_rule.specs.declared.manner.ByJournal.{ByJournal}
@@ -26,6 +26,8 @@ use Rattle.amoebot_run.specs.declared.ended.Ended.{Ended}
 use Rattle.amoebot_run.specs.declared.begin.Begun.{Begun}
 use Rattle.amoebot_run.specs.declared.begin.Begun.TheVariants as begun
 use Rattle.amoebot_run.specs.declared.making.Made.{Made}
+use Rattle.amoebot_run.specs.declared.making.MadeTurns.{MadeTurns}
+use Rattle.amoebot_run.specs.declared.making.MadeTurns.TheVariants as turned
 use Rattle.amoebot_run.specs.Clauses.{WroteAll, WroteFront}
 use Rattle.amoebot_run.specs.Endings.{IsEnding, IsReadWithinLimit}
 use Rattle.amoebot_run.specs.Working.{HasTickets, HasTurns}
@@ -66,27 +68,34 @@ HasEnded (begun.Run run) Ends = ⊥
 
 -- ---- the middle part
 
--- what became of a report's turns stands where those who made them put it, and the other place is empty
-abbrev pub HasTold : Maker → Made → Type 0
-HasTold maker.Workers made =
-    (turns : List (List (Turn ByJournal)))
-    × (made.turns ≡ Some turns) × (made.tickets ≡ None) × AreTurnsOf made.report.turns turns
-HasTold maker.Tickets made =
-    (tickets : List (List (Turn ByTicket)))
-    × (made.turns ≡ None) × (made.tickets ≡ Some tickets) × AreTurnsOf made.report.turns tickets
+-- what became of the turns, where each commit took the journal, and where each drew its place
+abbrev pub journal_turns : MadeTurns → Option (List (List (Turn ByJournal)))
+journal_turns (turned.Journal turns) = Some turns
+journal_turns (turned.Tickets tickets) = None
+
+abbrev pub ticket_turns : MadeTurns → Option (List (List (Turn ByTicket)))
+ticket_turns (turned.Journal turns) = None
+ticket_turns (turned.Tickets tickets) = Some tickets
+
+-- it is that of the turns with these marks, by those who made them
+abbrev pub HasTold : Maker → MarkLists → MadeTurns → Type 0
+HasTold maker.Workers marks (turned.Journal turns) = AreTurnsOf marks turns
+HasTold maker.Workers marks (turned.Tickets tickets) = ⊥
+HasTold maker.Tickets marks (turned.Journal turns) = ⊥
+HasTold maker.Tickets marks (turned.Tickets tickets) = AreTurnsOf marks tickets
 
 -- the report is a good one of the lists' turns under the program, from the shape on, and the steps of those who made them give it
 pub record IsMade (m : Maker) (p : Program) (start : Config) (lists : CallerLists) (made : Made) : Type 0 where
   pub good : Good (verdict_shown p) start lists made.report
   pub reached : ReachedBy m (setup (verdict_shown p) start lists) made.report
-  pub told : HasTold m made
+  pub told : HasTold m made.report.turns made.turns
 
 -- ---- the last part
 
 -- A text that tells the report was written, or a write of it failed; or it was out of memory and nothing was written.
 pub data IsEndedRun {K : Type 0} (sink : SinkOf K) (old new : K) (Text : List ℕ → Type 0) (made : Made) : Ended → Type 0 where
   told : (text : List ℕ) (ended : Ended) → Text text
-      → IsEndOfWriting sink old new status.Done (Some made.report) made.turns made.tickets text ended
+      → IsEndOfWriting sink old new status.Done (Some made.report) (journal_turns made.turns) (ticket_turns made.turns) text ended
       → IsEndedRun sink old new Text made ended
   untold : new ≡ old
       → IsEndedRun sink old new Text made (record { status = status.NoMemory; report = None; turns = None; tickets = None })

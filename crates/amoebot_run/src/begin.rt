@@ -15,8 +15,10 @@ ghost use Rattle.amoebot_run.specs.Working.{HasTickets, HasTurns};
 
 use crate::ended::{Ended, end_with, end_with_answer, end_with_line};
 use amoebot_state::NoMemory;
-use commands::{Prepared, Status, Task, answer_show, prepare_sample, row_of, task_of};
-use commands::{Command, DocumentCommand, command_of};
+use commands::{
+    Command, DocumentCommand, Prepared, Status, Task, answer_show, command_of, prepare_sample,
+    row_of, task_of,
+};
 use outer_io::{ReadError, Sink, Source, read_document};
 use shipped_programs::Shipped;
 use std::alloc::Global;

@@ -6,7 +6,7 @@ ghost use Rattle.commands.specs.Answers.{IsCounted, Tells};
 ghost use Rattle.amoebot_run.specs.Parts.{IsEndedRun};
 
 use crate::ended::{Ended, end_with, end_with_answer};
-use crate::making::Made;
+use crate::making::{Made, MadeTurns};
 use action_eval::Runner;
 use amoebot_state::NoMemory;
 use claim_core::Lists;
@@ -27,13 +27,12 @@ pub fn finish<K: Sink>(
     requires few { IsCounted telling made.report }
     ensures { IsEndedRun K.Sink out.old out.new (Tells telling runner.now lists.now made.report) made result }
 {
-    let Made {
-        report,
-        turns,
-        tickets,
-    } = made;
+    let Made { report, turns } = made;
     match tell(alloc, telling, runner, lists, report) {
-        Ok(answer) => end_with_answer(out, answer, turns, tickets),
+        Ok(answer) => match turns {
+            MadeTurns::Journal(turns) => end_with_answer(out, answer, Some(turns), None),
+            MadeTurns::Tickets(tickets) => end_with_answer(out, answer, None, Some(tickets)),
+        },
         Err(NoMemory) => end_with(Status::NoMemory),
     }
 }

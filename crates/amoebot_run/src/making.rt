@@ -16,15 +16,20 @@ use std::thread::Threads;
 use ticket_commit::{TicketTurns, work_tickets};
 use turn_workers::{Turns, work};
 
-/// What workers have made: a report, and what became of its turns, which stands in one of the other two places.
+/// What workers have made: a report, and what became of its turns.
 #[derive(Drop)]
 pub struct Made {
-    /// The report.
     pub report: Report,
-    /// What became of the turns, if each commit took the journal.
-    pub turns: Option<Turns>,
-    /// What became of the turns, if each commit drew its place.
-    pub tickets: Option<TicketTurns>,
+    pub turns: MadeTurns,
+}
+
+/// What became of the turns.
+#[derive(Drop)]
+pub enum MadeTurns {
+    /// Each commit took the journal.
+    Journal(Turns),
+    /// Each commit drew its place.
+    Tickets(TicketTurns),
 }
 
 /// Lets workers make the turns of the lists, from the world on. Each of them calls the gate in each turn that claims its whole zone.
@@ -45,16 +50,14 @@ pub fn make_turns<R: Threads + Wait + Sync, G: Gate>(
             let worked = work(rt, alloc, runner, world, lists, gate)?;
             Ok(Made {
                 report: worked.report,
-                turns: Some(worked.turns),
-                tickets: None,
+                turns: MadeTurns::Journal(worked.turns),
             })
         }
         Maker::Tickets => {
             let worked = work_tickets(rt, alloc, runner, world, lists, gate)?;
             Ok(Made {
                 report: worked.report,
-                turns: None,
-                tickets: Some(worked.turns),
+                turns: MadeTurns::Tickets(worked.turns),
             })
         }
     }

@@ -1,5 +1,5 @@
 -- The answers of the samples of `elect`.
-use Rattle.std.proofs.Common.{◌≡◌, ◌≢◌, ℕ, zero, suc, [], ◌∷◌, Bool, false, None, Some, inl, inr, Ok, refl, ap, sym, ◌∙◌, subst, arith}
+use Rattle.std.proofs.Common.{◌≡◌, ◌≢◌, ℕ, zero, suc, [], ◌∷◌, Bool, false, None, Some, inl, inr, Ok, refl, ap, sym, ◌∙◌, subst, arith, List}
 use Rattle.std.specs.Prelude.{IsTrue, is_some}
 use Rattle.std.specs.Fmt.{digits}
 use Rattle.std.specs.List.{All}
@@ -27,16 +27,18 @@ use Rattle.shape_files.specs.declared.section_kind.Form.TheVariants as form
 use Rattle.small_worlds.specs.Rows.{row_area, node}
 use Rattle.small_worlds.proofs.Rows.{is_area}
 use Rattle.election_law.specs.Elections.{IsErosion, IsReadyBot, IsReadyStart, IsElected, is_leader, is_candidate, candidate_at}
-use Rattle.commands.specs.Replay.{at_end}
+use Rattle.commands.specs.Recorded.{at_end, DocumentRecord, in_plain, JournalOutcome, agreeing, differing, differs_line}
 use Rattle.commands.specs.declared.words.DocumentCommand.TheVariants.{Elect}
 use Rattle.commands.specs.Words.{of_two_words}
 use Rattle.commands.specs.declared.status.Status.TheVariants as status
 use Rattle.commands.specs.Lines.{bad_start}
-use Rattle.commands.specs.Outcomes.{DocumentRecord, JournalAgrees, JournalDiffers, in_plain, not_ready, not_elected, elected}
+use Rattle.commands.specs.Elect.{not_ready, begun}
 use Rattle.commands.specs.Owed.{served}
 use Rattle.commands.specs.ElectExamples.{erosion_row, candidate_bot, one_candidate, one_leader, candidate_elsewhere, leading, before_it_leads, once_it_leads, in_other_area, erosion_with_nobody, SmallElections}
 use Rattle.commands.proofs.SmallDocuments.{says}
 use Rattle.commands.proofs.ElectDocuments.{lined_erosion, recorded, elections_are_answered}
+use Rattle.commands.proofs.ElectLemmas.{IsElectedText}
+use Rattle.amoebot_state.specs.declared.verdict.Entry.{Entry}
 
 -- ---- the worlds
 
@@ -115,15 +117,15 @@ its_other = record { program = lined_erosion; start = one_candidate; final = can
 abbrev its_nobody : DocumentRecord (recorded erosion_row [] erosion_row)
 its_nobody = record { program = lined_erosion; start = erosion_row; final = erosion_row; its_program = refl; its_shape = refl; its_final = refl }
 
-stays : JournalAgrees (recorded one_candidate [] one_candidate) its_first []
-stays = record { told = inr refl; agrees = refl }
+stays : (IsText : List Entry → List ℕ → Type 0) (text : List ℕ) → IsText [] text → JournalOutcome (recorded one_candidate [] one_candidate) its_first IsText status.Done None text
+stays IsText text is = in_plain [] refl (agreeing [] text refl refl is)
 
-is_led : JournalAgrees (recorded one_candidate (plain_entry leading ∷ []) one_leader) its_second (leading ∷ [])
-is_led = record { told = inr refl; agrees = (one_leader, leads, refl) }
+is_led : (IsText : List Entry → List ℕ → Type 0) (text : List ℕ) → IsText (leading ∷ []) text → JournalOutcome (recorded one_candidate (plain_entry leading ∷ []) one_leader) its_second IsText status.Done None text
+is_led IsText text is = in_plain (plain_entry leading ∷ []) refl (agreeing (leading ∷ []) text refl (one_leader, leads, refl) is)
 
 -- the row has three nodes and not four
-differs : JournalDiffers (recorded one_candidate [] candidate_elsewhere) its_other 0
-differs = in_plain [] 0 refl (at_end one_candidate (record { source = []; tells = refl; holds = refl }) (λ same. let wide : ◌≡◌ {A = ℕ} 3 4 = ap (λ (c : Config). c.area.w) same in omega (arith, wide)))
+differs : (IsText : List Entry → List ℕ → Type 0) → JournalOutcome (recorded one_candidate [] candidate_elsewhere) its_other IsText (status.Differs 0) None (differs_line 0)
+differs IsText = in_plain [] refl (differing 0 (at_end one_candidate (record { source = []; tells = refl; holds = refl }) (λ same. let wide : ◌≡◌ {A = ℕ} 3 4 = ap (λ (c : Config). c.area.w) same in omega (arith, wide))))
 
 nobody_is_ready : ¬ IsReadyStart erosion_row
 nobody_is_ready is = false≢true is.some.1
@@ -134,11 +136,11 @@ small_elections = record {
   ready = ready;
   elected = its_election;
   candidate = served Elect before_it_leads (recorded one_candidate [] one_candidate) status.Done None _ (says form.Replay before_it_leads (Ok (recorded one_candidate [] one_candidate)) elections_are_answered.candidate)
-      (elected its_first [] is_erosion ready stays);
+      (begun its_first status.Done None _ is_erosion ready (stays (IsElectedText one_candidate) _ refl));
   leader = served Elect once_it_leads (recorded one_candidate (plain_entry leading ∷ []) one_leader) status.Done None _ (says form.Replay once_it_leads (Ok (recorded one_candidate (plain_entry leading ∷ []) one_leader)) elections_are_answered.leader)
-      (elected its_second (leading ∷ []) is_erosion ready is_led);
+      (begun its_second status.Done None _ is_erosion ready (is_led (IsElectedText one_leader) _ refl));
   other_area = served Elect in_other_area (recorded one_candidate [] candidate_elsewhere) (status.Differs 0) None _ (says form.Replay in_other_area (Ok (recorded one_candidate [] candidate_elsewhere)) elections_are_answered.other_area)
-      (not_elected its_other 0 is_erosion ready differs);
+      (begun its_other (status.Differs 0) None _ is_erosion ready (differs (IsElectedText candidate_elsewhere)));
   nobody = served Elect erosion_with_nobody (recorded erosion_row [] erosion_row) (status.Refused bad_start) None _ (says form.Replay erosion_with_nobody (Ok (recorded erosion_row [] erosion_row)) elections_are_answered.nobody)
       (not_ready its_nobody is_erosion nobody_is_ready);
 }

@@ -1,14 +1,13 @@
--- What `elect` answers is what it owes, each world of its run is elected, and it ends as `replay` does.
-use Rattle.std.proofs.Common.{◌≡◌, ◌≢◌, ◌⊎◌, ℕ, List, length, Option, Some, None, Result, Ok, Err, inl, inr, ap, refl, sym, subst, ◌∙◌}
+-- What `elect` answers, each world of its run is elected, and it ends as `replay` does.
+use Rattle.std.proofs.Common.{◌≡◌, ◌≢◌, ◌⊎◌, ℕ, List, length, Option, None, Result, Ok, Err, inl, inr, ap, refl, sym, subst, ◌∙◌}
 use Rattle.std.specs.Prelude.{IfErr, IfSome, MatchResult, OnOk, ⊤}
 use Rattle.std.proofs.lemmas.Option.{same_Some}
 use Rattle.amoebot_state.specs.declared.verdict.Entry.{Entry}
 use Rattle.amoebot_state.specs.Configs.{Config, IsValid}
 use Rattle.serial_model.specs.declared.replays.Differs.{Differs}
 use Rattle.action_tree.specs.Trees.{Program}
-use Rattle.shape_checks.specs.Values.{value_count}
 use Rattle.action_meaning.specs.Verdicts.{verdict_shown}
-use Rattle.election_law.specs.Elections.{IsErosion, IsReadyStart, cand_var, leader_of}
+use Rattle.election_law.specs.Elections.{IsErosion, IsReadyStart}
 use Rattle.election_law.specs.declared.refusal.ElectRefusal.{ElectRefusal}
 use Rattle.election_law.specs.declared.refusal.ElectRefusal.TheVariants.{NoMemory}
 use Rattle.election_law.specs.Starts.{AreBotsReady, IsFirstUnready}
@@ -18,68 +17,53 @@ use Rattle.shape_files.specs.declared.section_kind.Form.TheVariants as form
 use Rattle.shape_files.specs.Documents.{Contents, HasContents}
 use Rattle.shape_files.specs.LeastVersions.{DecidedFromEach}
 use Rattle.shape_files.specs.Fitting.{DocumentsAreSound, IsWorldShape}
-use Rattle.commands.specs.Elect.{election_text}
-use Rattle.commands.specs.Replay.{AgreesIn, DiffersAt, agrees_line, differs_line}
+use Rattle.commands.specs.Elect.{no_erosion, not_ready, ElectOutcome, begun, elected_text}
+use Rattle.commands.specs.Replay.{agrees_line}
 use Rattle.commands.specs.declared.words.DocumentCommand.TheVariants.{Elect, Replay}
 use Rattle.commands.specs.declared.answer.Answer.{Answer}
 use Rattle.commands.specs.declared.status.Status.{Status}
 use Rattle.commands.specs.declared.status.Status.TheVariants as status
-use Rattle.commands.specs.Answers.{IsAnswerTo, differs_with, elected_with, refused_with}
+use Rattle.commands.specs.Recorded.{AgreesIn, DiffersAt, differs_line, DocumentRecord, agreeing, differing, EntriesOutcome}
 use Rattle.commands.specs.ElectLaws.{ElectEndsAsReplay, ElectionsAreWon, IsWonElection}
-use Rattle.commands.specs.Lines.{bad_start, not_erosion, refusal_line}
-use Rattle.commands.specs.Outcomes.{DocumentRecord, IsOutcome, JournalAgrees, JournalDiffers, agreeing, differing, no_erosion, not_ready, not_elected, elected}
+use Rattle.commands.specs.Lines.{bad_start, refusal_line}
+use Rattle.commands.specs.Outcomes.{IsOutcome}
 use Rattle.commands.specs.Owed.{served}
 use Rattle.commands.specs.Reads.{whole}
 use Rattle.commands.specs.RenewLaws.{IsOwedFor}
-use Rattle.commands.specs.Told.{TellsRun, of_agreeing, of_differing}
 use Rattle.commands.proofs.Outcomes.{documents_have_outcomes}
-use Rattle.commands.proofs.OwedTexts.{same_answer}
-use Rattle.commands.proofs.RecordedLemmas.{IsJournalIn, answers}
+use Rattle.commands.proofs.OwedTexts.{answers}
+use Rattle.commands.specs.Answers.{IsAnswerOf, with_text}
+use Rattle.commands.proofs.JournalLemmas.{IsAgreesLine, agreeing_journal, done_journal, other_end, replay_agrees}
 
 -- ---- what is answered
 
-module _ (a : Contents) (d : DocumentRecord a) (answer : Answer) where
-  pub tells_no_erosion : (IsErosion d.program → ⊥) → answer ≡ refused_with not_erosion → IsAnswerTo Elect a answer
-  tells_no_erosion other is = same_answer Elect a answer (refused_with not_erosion) is (λ bytes h.
-      served Elect bytes a (status.Refused not_erosion) None (refusal_line not_erosion) h (no_erosion d other))
+-- a start that is refused for something else than memory
+pub refused_start : (a : Contents) (d : DocumentRecord a) (answer : Answer) → IsErosion d.program → ReadyHasNone → (e : ElectRefusal) → IsFirstUnready d.start e ⊎ ((e ≡ NoMemory) × AreBotsReady d.start)
+    → (e ≢ NoMemory) × (answer ≡ with_text (status.Refused bad_start) (refusal_line bad_start)) → IsAnswerOf (ElectOutcome a) answer
+refused_start a d answer erodes none e (inl first) is = answers (ElectOutcome a) answer _ is.1 (not_ready d erodes (λ ready. none d.start e ready first))
+refused_start a d answer erodes none e (inr short) is = absurd (is.0 short.0)
 
-  pub tells_bad_start : IsErosion d.program → (IsReadyStart d.start → ⊥) → answer ≡ refused_with bad_start → IsAnswerTo Elect a answer
-  tells_bad_start erodes unready is = same_answer Elect a answer (refused_with bad_start) is (λ bytes h.
-      served Elect bytes a (status.Refused bad_start) None (refusal_line bad_start) h (not_ready d erodes unready))
+-- the text of a world's election
+abbrev pub IsElectedText : Config → List Entry → List ℕ → Type 0
+IsElectedText final es text = text ≡ elected_text final
 
-  pub tells_difference : IsErosion d.program → IsReadyStart d.start → (place : ℕ) → JournalDiffers a d place → answer ≡ differs_with place → IsAnswerTo Elect a answer
-  tells_difference erodes ready place differs is = same_answer Elect a answer (differs_with place) is (λ bytes h.
-      served Elect bytes a (status.Differs place) None (differs_line place) h (not_elected d place erodes ready differs))
-
-  pub tells_election : IsErosion d.program → IsReadyStart d.start → (es : List Entry) → JournalAgrees a d es → answer ≡ elected_with (value_count d.final cand_var 1) (leader_of d.final) → IsAnswerTo Elect a answer
-  tells_election erodes ready es agrees is = same_answer Elect a answer (elected_with (value_count d.final cand_var 1) (leader_of d.final)) is (λ bytes h.
-      served Elect bytes a status.Done None (election_text (value_count d.final cand_var 1) (leader_of d.final)) h (elected d es erodes ready agrees))
-
-  -- a start that is refused for something else than memory
-  pub tells_refusal : IsErosion d.program → ReadyHasNone → (e : ElectRefusal) → IsFirstUnready d.start e ⊎ ((e ≡ NoMemory) × AreBotsReady d.start)
-      → (e ≢ NoMemory) × (answer ≡ refused_with bad_start) → IsAnswerTo Elect a answer
-  tells_refusal erodes none e (inl first) is = tells_bad_start erodes (λ ready. none d.start e ready first) is.1
-  tells_refusal erodes none e (inr short) is = absurd (is.0 short.0)
-
--- what is told of the journal of an election that began
-abbrev Elected : Config → List Entry → Answer → Type 0
-Elected final es answer = answer ≡ elected_with (value_count final cand_var 1) (leader_of final)
-
-pub tells_journal : {E : Type 0} {form : Entry → E} (a : Contents) (d : DocumentRecord a) (told : List E) → IsJournalIn form a d told → (answer : Answer) → IsErosion d.program → IsReadyStart d.start → (e : ElectionState) → e ≡ record { program = d.program; world = d.start; steps = 0 }
-    → TellsRun form e.program e.world told d.final (Elected d.final) answer → IsAnswerTo Elect a answer
-tells_journal {E} {form} a d told is answer erodes ready e began by =
-    answers is Elect (Elected d.final) answer (tells_election a d answer erodes ready) (tells_difference a d answer erodes ready)
-    (subst (λ (x : ElectionState). TellsRun form x.program x.world told d.final (Elected d.final) answer) began by)
+-- an election that began is that of the document's program, from its shape on
+pub of_began : {E : Type 0} (form : Entry → E) (p : Program) (start : Config) (told : List E) (final : Config) (answer : Answer) (e : ElectionState) → e ≡ record { program = p; world = start; steps = 0 }
+    → IsAnswerOf (EntriesOutcome form (verdict_shown e.program) e.world told final (IsElectedText final)) answer
+    → IsAnswerOf (EntriesOutcome form (verdict_shown p) start told final (IsElectedText final)) answer
+of_began form p start told final answer e began by = subst (λ (x : ElectionState). IsAnswerOf (EntriesOutcome form (verdict_shown x.program) x.world told final (IsElectedText final)) answer) began by
 
 -- what is told of the steps of its entries
-pub tells_steps : {E : Type 0} (form : Entry → E) (p : Program) (start : Config) (told : List E) (final : Config) (answer : Answer) (made : Result ⊤ Differs) (world : Config)
+pub of_steps : {E : Type 0} (form : Entry → E) (p : Program) (start : Config) (told : List E) (final : Config) (answer : Answer) (made : Result ⊤ Differs) (world : Config)
     → OnOk made (AgreesIn form (verdict_shown p) start told final)
     → OnOk made (world ≡ final)
     → IfErr made (λ x. DiffersAt form (verdict_shown p) start told final x.place)
-    → MatchResult made (λ _. answer ≡ elected_with (value_count world cand_var 1) (leader_of world)) (λ x. answer ≡ differs_with x.place)
-    → TellsRun form p start told final (Elected final) answer
-tells_steps form p start told final answer (Ok u) world agrees reached differs is = of_agreeing agrees.source agrees.tells agrees.holds (is ∙ ap (λ (c : Config). elected_with (value_count c cand_var 1) (leader_of c)) reached)
-tells_steps form p start told final answer (Err x) world agrees reached differs is = of_differing x.place differs is
+    → MatchResult made (λ _. answer ≡ with_text status.Done (elected_text world)) (λ x. answer ≡ with_text (status.Differs x.place) (differs_line x.place))
+    → IsAnswerOf (EntriesOutcome form (verdict_shown p) start told final (IsElectedText final)) answer
+of_steps form p start told final answer (Ok u) world agrees reached differs is =
+    answers (EntriesOutcome form (verdict_shown p) start told final (IsElectedText final)) answer _ is (agreeing agrees.source (elected_text world) agrees.tells agrees.holds (ap elected_text reached))
+of_steps form p start told final answer (Err x) world agrees reached differs is =
+    answers (EntriesOutcome form (verdict_shown p) start told final (IsElectedText final)) answer _ is (differing x.place differs)
 
 -- ---- elections are won
 
@@ -95,13 +79,15 @@ valid_start sound bytes a d h =
     stands.valid
 
 won : ErosionElects → DocumentsAreSound → (bytes : List ℕ) (a : Contents) (text : List ℕ) → HasContents form.Replay bytes a → IsOutcome a Elect status.Done None text → IsWonElection a text
-won law sound bytes a text h (elected d es erodes ready agrees) = record {
-  document = d;
-  entries = es;
-  agrees = agrees;
-  elected = λ place world at. law d.program d.start es place world erodes (valid_start sound bytes a d h) ready at;
-  writes = refl;
-}
+won law sound bytes a text h (begun d t told u erodes ready x) =
+    let by = done_journal a d (IsElectedText d.final) text x in
+    record {
+      document = d;
+      entries = by.entries;
+      agrees = by.agrees;
+      elected = λ place world at. law d.program d.start by.entries place world erodes (valid_start sound bytes a d h) ready at;
+      writes = by.is_text;
+    }
 
 pub elections_are_won : DecidedFromEach → DocumentsAreSound → ErosionElects → ElectionsAreWon
 elections_are_won documents sound law bytes text a h owed = won law sound bytes a text h (documents_have_outcomes documents Elect bytes a status.Done None text h owed)
@@ -118,21 +104,21 @@ module _ (bytes : List ℕ) (a : Contents) (d : DocumentRecord a) (h : HasConten
   to_replay : (s : Status) (text : List ℕ) → s ≢ status.Done → IsOutcome a Elect s None text → IsOwedFor Replay (whole bytes) s text
   to_replay s text other (no_erosion e none) = absurd (none (erodes_too e))
   to_replay s text other (not_ready e is none) = absurd (none (ready_too e))
-  to_replay s text other (not_elected e place is starts differs) = served Replay bytes a (status.Differs place) None (differs_line place) h (differing e place differs)
-  to_replay s text other (elected e es is starts agrees) = absurd (other refl)
+  to_replay s text other (begun e t told u is starts x) = served Replay bytes a s None text h (e, other_end IsAgreesLine s None text other x)
 
   to_elect : (s : Status) (text : List ℕ) → s ≢ status.Done → IsOutcome a Replay s None text → IsOwedFor Elect (whole bytes) s text
-  to_elect s text other (agreeing e es agrees) = absurd (other refl)
-  to_elect s text other (differing e place differs) =
-      served Elect bytes a (status.Differs place) None (differs_line place) h (not_elected e place (erodes_too e) (ready_too e) differs)
+  to_elect s text other (e, x) = served Elect bytes a s None text h (begun e s None text (erodes_too e) (ready_too e) (other_end (IsElectedText e.final) s None text other x))
 
   done_by_replay : (text : List ℕ) → IsOutcome a Elect status.Done None text → (line : List ℕ) × IsOwedFor Replay (whole bytes) status.Done line
-  done_by_replay text (elected e es is starts agrees) = (agrees_line (length es), served Replay bytes a status.Done None (agrees_line (length es)) h (agreeing e es agrees))
+  done_by_replay text (begun e t told u is starts x) =
+      let by = done_journal a e (IsElectedText e.final) text x in
+      (agrees_line (length by.entries), replay_agrees bytes a e by.entries h by.agrees)
 
   done_by_elect : (line : List ℕ) → IsOutcome a Replay status.Done None line → (text : List ℕ) × IsOwedFor Elect (whole bytes) status.Done text
-  done_by_elect line (agreeing e es agrees) =
-      let text = election_text (value_count e.final cand_var 1) (leader_of e.final) in
-      (text, served Elect bytes a status.Done None text h (elected e es (erodes_too e) (ready_too e) agrees))
+  done_by_elect line (e, x) =
+      let by = done_journal a e IsAgreesLine line x in
+      let text = elected_text e.final in
+      (text, served Elect bytes a status.Done None text h (begun e status.Done None text (erodes_too e) (ready_too e) (agreeing_journal a e (IsElectedText e.final) by.entries text by.agrees refl)))
 
 pub elect_ends_as_replay : DecidedFromEach → ElectEndsAsReplay
 elect_ends_as_replay documents bytes a d h erodes ready =

@@ -1,5 +1,5 @@
 -- The answers of the samples: the steps of the schedule are computed, and what they leave is also what the turns leave.
-use Rattle.std.proofs.Common.{◌≡◌, ℕ, List, replicate, [], ◌∷◌, ◌++◌, Some, None, inr, Ok, Err, zero, suc, refl, ap, arith, codes, subst, sym}
+use Rattle.std.proofs.Common.{◌≡◌, ℕ, List, replicate, [], ◌∷◌, ◌++◌, Some, None, Ok, Err, zero, suc, refl, ap, arith, codes, subst, sym, length}
 use Rattle.std.specs.Prelude.{is_some, reverse}
 use Rattle.std.specs.Fmt.{digits}
 use Rattle.std.specs.List.{All}
@@ -24,9 +24,9 @@ use Rattle.shape_files.specs.declared.section_kind.Form.TheVariants as form
 use Rattle.shape_files.specs.DocumentRows.{program_text, out, only_program}
 use Rattle.small_worlds.specs.Rows.{row_area, row_frame, node, bot_in_row}
 use Rattle.claim_core.specs.declared.report.Report.{Report}
-use Rattle.commands.specs.Reports.{report_text}
+use Rattle.commands.specs.Reports.{report_text, DocumentLists, reported}
 use Rattle.commands.specs.Interleave.{IsScheduled}
-use Rattle.commands.specs.Replay.{at_end}
+use Rattle.commands.specs.Recorded.{at_end, DocumentRecord, in_plain, agreeing, differing, JournalOutcome, differs_line}
 use Rattle.commands.specs.WorkExamples.{nobody, one_alone}
 use Rattle.commands.proofs.Measures.{nobody_is_measured}
 use Rattle.small_worlds.proofs.Rows.{is_area, one_id, IsThereIn, one_has_ended, two_have_ended}
@@ -35,12 +35,15 @@ use Rattle.commands.specs.declared.words.DocumentCommand.TheVariants.{Run, Inter
 use Rattle.commands.specs.declared.words.Command.TheVariants.{Document}
 use Rattle.commands.specs.declared.status.Status.TheVariants as status
 use Rattle.commands.specs.Reads.{whole}
-use Rattle.commands.specs.Outcomes.{DocumentLists, DocumentRecord, JournalAgrees, JournalDiffers, in_plain, of_run, of_tickets, of_interleave, agreeing, differing, of_check, of_measure, renewing, renew_differing}
 use Rattle.commands.specs.Owed.{IsOwed, usage, read_fault, longer, refused, served, shown}
 use Rattle.commands.specs.Answers.{of_document}
 use Rattle.commands.specs.Words.{is_number_word, of_two_words, number_of}
 use Rattle.commands.specs.Examples.{with_shape, with_nobody, with_list, with_two_lists, with_schedule, expansion_journal, spread_text, still_text, spread_config, one_list, two_lists, schedule, expansion, and_nobody, and_list, and_two_lists, and_schedule, and_journal, expansion_report, expansion_report_text, renewed_expansion, two_callers_report, both_text, empty_refused, SmallAnswers}
 use Rattle.commands.proofs.SmallDocuments.{says, are_answered}
+use Rattle.commands.specs.Texts.{written}
+use Rattle.commands.specs.Replay.{agrees_line}
+use Rattle.commands.specs.Renew.{renewed_text}
+use Rattle.amoebot_state.specs.declared.verdict.Entry.{Entry}
 
 abbrev g : Setup
 g = setup (verdict_shown out) one_alone one_list
@@ -143,21 +146,21 @@ module _ (goods : ReachedIsGood) where
   plain_run : RunIn plain_entry (verdict_shown out) one_alone (plain_entry expansion ∷ []) spread_config
   plain_run = record { source = expansion ∷ []; tells = refl; holds = good.run }
 
-  its_journal_agrees : JournalAgrees (and_journal spread_config) (its_record spread_config) (expansion ∷ [])
-  its_journal_agrees = record { told = inr refl; agrees = good.run }
+  its_journal_agrees : (IsText : List Entry → List ℕ → Type 0) (text : List ℕ) → IsText (expansion ∷ []) text → JournalOutcome (and_journal spread_config) (its_record spread_config) IsText status.Done None text
+  its_journal_agrees IsText text is = in_plain (plain_entry expansion ∷ []) refl (agreeing (expansion ∷ []) text refl good.run is)
 
-  pub its_journal_differs : JournalDiffers (and_journal one_alone) (its_record one_alone) 1
-  its_journal_differs = in_plain (plain_entry expansion ∷ []) 1 refl (at_end spread_config plain_run (λ same. let e = ap (λ (c : Config). occupant c (node 2)) same in cc))
+  pub its_journal_differs : (IsText : List Entry → List ℕ → Type 0) → JournalOutcome (and_journal one_alone) (its_record one_alone) IsText (status.Differs 1) None (differs_line 1)
+  its_journal_differs IsText = in_plain (plain_entry expansion ∷ []) refl (differing 1 (at_end spread_config plain_run (λ same. let e = ap (λ (c : Config). occupant c (node 2)) same in cc)))
 
 module _ (goods : ReachedIsGood) (serials : OneListIsSerial) where
   -- each good report that an interleaving gives is owed
   owes_report : (report : Report) → Good (verdict_shown out) one_alone one_list report → Reached g report → IsOwed (Some (Document Run)) (whole with_list) status.Done (Some report) (report_text 1 0 report)
   owes_report report its_good its_reached = served Run with_list and_list status.Done (Some report) (report_text 1 0 report) (says form.Run with_list (Ok and_list) are_answered.list)
-      (of_run its_lists report (record { good = its_good; reached = its_reached; serial = λ few. serials (verdict_shown out) one_alone one_list report few its_good }))
+      (reported its_lists report (record { good = its_good; reached = its_reached; serial = λ few. serials (verdict_shown out) one_alone one_list report few its_good }))
 
   owes_tickets : (report : Report) → Good (verdict_shown out) one_alone one_list report → TicketReached g report → IsOwed (Some (Document Tickets)) (whole with_list) status.Done (Some report) (report_text 1 0 report)
   owes_tickets report its_good its_reached = served Tickets with_list and_list status.Done (Some report) (report_text 1 0 report) (says form.Run with_list (Ok and_list) are_answered.list)
-      (of_tickets its_lists report (record { good = its_good; reached = its_reached; serial = λ few. serials (verdict_shown out) one_alone one_list report few its_good }))
+      (reported its_lists report (record { good = its_good; reached = its_reached; serial = λ few. serials (verdict_shown out) one_alone one_list report few its_good }))
 
   pub small_answers : SmallAnswers
   unfolding digits name of_two_words number_of is_number_word
@@ -170,17 +173,17 @@ module _ (goods : ReachedIsGood) (serials : OneListIsSerial) where
     long = λ bytes. longer Check bytes;
     empty = refused Interleave [] empty_refused (says form.Interleave [] (Err empty_refused) are_answered.empty);
     run = owes_report expansion_report (good goods) reached;
-    two_lists = served Run with_two_lists and_two_lists status.Done (Some two_callers_report) both_text (says form.Run with_two_lists (Ok and_two_lists) are_answered.two_lists) (of_run its_two_lists two_callers_report (record { good = both_good goods; reached = both_reached; serial = λ few. absurd (omega arith) }));
+    two_lists = served Run with_two_lists and_two_lists status.Done (Some two_callers_report) both_text (says form.Run with_two_lists (Ok and_two_lists) are_answered.two_lists) (reported its_two_lists two_callers_report (record { good = both_good goods; reached = both_reached; serial = λ few. absurd (omega arith) }));
     tickets = owes_tickets expansion_report (good goods) drawn;
-    two_with_tickets = served Tickets with_two_lists and_two_lists status.Done (Some two_callers_report) both_text (says form.Run with_two_lists (Ok and_two_lists) are_answered.two_lists) (of_tickets its_two_lists two_callers_report (record { good = both_good goods; reached = both_drawn; serial = λ few. absurd (omega arith) }));
-    interleave = served Interleave with_schedule and_schedule status.Done (Some expansion_report) expansion_report_text (says form.Interleave with_schedule (Ok and_schedule) are_answered.schedule) (of_interleave its_schedule schedule expansion_report refl (record { good = good goods; reached = reached; scheduled = scheduled }));
-    agrees = served Replay (with_shape ++ expansion_journal ++ spread_text) (and_journal spread_config) status.Done None (codes "agrees 1\n") (says form.Replay (with_shape ++ expansion_journal ++ spread_text) (Ok (and_journal spread_config)) are_answered.journal) (agreeing (its_record spread_config) (expansion ∷ []) (its_journal_agrees goods));
-    differs = served Replay (with_shape ++ expansion_journal ++ still_text) (and_journal one_alone) (status.Differs 1) None (codes "differs 1\n") (says form.Replay (with_shape ++ expansion_journal ++ still_text) (Ok (and_journal one_alone)) are_answered.other_final) (differing (its_record one_alone) 1 (its_journal_differs goods));
-    renew = served Renew (with_shape ++ expansion_journal ++ spread_text) (and_journal spread_config) status.Done None renewed_expansion (says form.Replay (with_shape ++ expansion_journal ++ spread_text) (Ok (and_journal spread_config)) are_answered.journal) (renewing (its_record spread_config) (expansion ∷ []) (its_journal_agrees goods));
-    renew_differs = served Renew (with_shape ++ expansion_journal ++ still_text) (and_journal one_alone) (status.Differs 1) None (codes "differs 1\n") (says form.Replay (with_shape ++ expansion_journal ++ still_text) (Ok (and_journal one_alone)) are_answered.other_final) (renew_differing (its_record one_alone) 1 (its_journal_differs goods));
-    check = served Check program_text only_program status.Done None _ (says form.Check program_text (Ok only_program) are_answered.program) (of_check out refl);
+    two_with_tickets = served Tickets with_two_lists and_two_lists status.Done (Some two_callers_report) both_text (says form.Run with_two_lists (Ok and_two_lists) are_answered.two_lists) (reported its_two_lists two_callers_report (record { good = both_good goods; reached = both_drawn; serial = λ few. absurd (omega arith) }));
+    interleave = served Interleave with_schedule and_schedule status.Done (Some expansion_report) expansion_report_text (says form.Interleave with_schedule (Ok and_schedule) are_answered.schedule) (reported its_schedule expansion_report (schedule, refl, record { good = good goods; reached = reached; scheduled = scheduled }));
+    agrees = served Replay (with_shape ++ expansion_journal ++ spread_text) (and_journal spread_config) status.Done None (codes "agrees 1\n") (says form.Replay (with_shape ++ expansion_journal ++ spread_text) (Ok (and_journal spread_config)) are_answered.journal) (its_record spread_config, its_journal_agrees goods (λ es text. text ≡ agrees_line (length es)) (codes "agrees 1\n") refl);
+    differs = served Replay (with_shape ++ expansion_journal ++ still_text) (and_journal one_alone) (status.Differs 1) None (codes "differs 1\n") (says form.Replay (with_shape ++ expansion_journal ++ still_text) (Ok (and_journal one_alone)) are_answered.other_final) (its_record one_alone, its_journal_differs goods (λ es text. text ≡ agrees_line (length es)));
+    renew = served Renew (with_shape ++ expansion_journal ++ spread_text) (and_journal spread_config) status.Done None renewed_expansion (says form.Replay (with_shape ++ expansion_journal ++ spread_text) (Ok (and_journal spread_config)) are_answered.journal) (its_record spread_config, its_journal_agrees goods (λ es text. text ≡ renewed_text out one_alone es spread_config) renewed_expansion refl);
+    renew_differs = served Renew (with_shape ++ expansion_journal ++ still_text) (and_journal one_alone) (status.Differs 1) None (codes "differs 1\n") (says form.Replay (with_shape ++ expansion_journal ++ still_text) (Ok (and_journal one_alone)) are_answered.other_final) (its_record one_alone, its_journal_differs goods (λ es text. text ≡ renewed_text out one_alone es one_alone));
+    check = served Check program_text only_program status.Done None _ (says form.Check program_text (Ok only_program) are_answered.program) (written _ (out, refl, refl));
     show = shown Line;
-    measure = served Measure with_nobody and_nobody status.Done None _ (says form.Measure with_nobody (Ok and_nobody) are_answered.nobody) (of_measure nobody _ refl nobody_is_measured);
+    measure = served Measure with_nobody and_nobody status.Done None _ (says form.Measure with_nobody (Ok and_nobody) are_answered.nobody) (written _ (nobody, refl, nobody_is_measured));
     refused_task = (refused Interleave [] empty_refused (says form.Interleave [] (Err empty_refused) are_answered.empty), λ worked. absurd worked);
     run_task = record {
       its_maker = refl;

@@ -1,5 +1,5 @@
 -- The answers of the samples of version 3, and of `rewind`, `rounds` and `elect`.
-use Rattle.std.proofs.Common.{subst, ◌≡◌, ◌<◌, ◌≤◌, ◌∙◌, ℕ, [], ◌∷◌, ◌++◌, length, get_or, None, Some, inl, inr, Ok, Err, refl, ap, sym, arith}
+use Rattle.std.proofs.Common.{subst, ◌≡◌, ◌<◌, ◌≤◌, ◌∙◌, ℕ, [], ◌∷◌, ◌++◌, length, get_or, None, Some, Ok, Err, refl, ap, sym, arith, List}
 use Rattle.std.specs.Fmt.{digits}
 use Rattle.std.proofs.lemmas.List.Elements.{All-head}
 use Rattle.text_tokens.specs.Kinds.{name}
@@ -27,17 +27,21 @@ use Rattle.small_worlds.specs.Rows.{node, bot_in_row}
 use Rattle.shape_files.proofs.LeastVersionsLemmas.{later_is_document}
 use Rattle.election_law.specs.Elections.{IsErosion}
 use Rattle.commands.specs.WorkExamples.{nobody, one_alone}
-use Rattle.commands.specs.Replay.{at_entry}
+use Rattle.commands.specs.Recorded.{at_entry, DocumentRecord, in_full, agreeing, differing, JournalOutcome, in_plain, differs_line}
 use Rattle.commands.specs.declared.words.DocumentCommand.TheVariants.{Replay, Renew, Rewind, Rounds, Elect}
 use Rattle.commands.specs.Words.{is_number_word, number_of, of_two_words}
 use Rattle.commands.specs.declared.status.Status.TheVariants as status
 use Rattle.commands.specs.Lines.{no_such_place, not_erosion}
-use Rattle.commands.specs.Outcomes.{DocumentRecord, JournalAgrees, JournalDiffers, in_full, agreeing, differing, renewing, renew_differing, no_place, unwound, not_unwound, rounded, not_rounded, no_erosion}
+use Rattle.commands.specs.Rewind.{no_place, unwound, not_unwound}
 use Rattle.commands.specs.Owed.{refused, served}
 use Rattle.commands.specs.Examples.{with_shape, expansion_journal, spread_text, still_text, spread_config, expansion, and_journal}
 use Rattle.commands.specs.ExplainExamples.{SmallExplanations, full_text, still_full_text, wide_full_text, other_old_text, recorded_with_nobody, wide_spread, other_expansion, and_entry, and_full_journal, and_empty_journal, early_refused}
 use Rattle.commands.proofs.ExampleLemmas.{good, its_record, its_journal_differs, valid, spread_is_valid}
 use Rattle.commands.proofs.SmallDocuments.{are_answered, says, says_since}
+use Rattle.commands.specs.Elect.{no_erosion}
+use Rattle.commands.specs.Replay.{agrees_line}
+use Rattle.commands.specs.Renew.{renewed_text}
+use Rattle.commands.specs.Rounds.{IsRoundsText}
 
 abbrev its_full_record : DocumentRecord (and_full_journal spread_config)
 its_full_record = record { program = out; start = one_alone; final = spread_config; its_program = refl; its_shape = refl; its_final = refl }
@@ -86,9 +90,6 @@ changes_of verdict.Idle = []
 changes_of (verdict.Failed f) = []
 changes_of (verdict.Change change) = change.patch
 
-nobody_agrees : JournalAgrees and_empty_journal its_empty_record []
-nobody_agrees = record { told = inr refl; agrees = refl }
-
 -- without an entry no round ends, and without an amoebot nobody waits
 no_rounds : IsRounded (verdict_shown out) nobody [] 0 0
 no_rounds = record {
@@ -108,11 +109,11 @@ module _ (goods : ReachedIsGood) where
   back_at_end : IsBack (verdict_shown out) spread_config (expansion ∷ []) 1 spread_config
   back_at_end = record { within = omega arith; valid = spread_is_valid goods; run = refl }
 
-  full_agrees : JournalAgrees (and_full_journal spread_config) its_full_record (expansion ∷ [])
-  full_agrees = record { told = inl refl; agrees = (good goods).run }
+  full_agrees : (IsText : List Entry → List ℕ → Type 0) (text : List ℕ) → IsText (expansion ∷ []) text → JournalOutcome (and_full_journal spread_config) its_full_record IsText status.Done None text
+  full_agrees IsText text is = in_full (expansion ∷ []) refl (agreeing (expansion ∷ []) text refl (good goods).run is)
 
-  other_differs : JournalDiffers (and_entry other_expansion spread_config) its_other_record 0
-  other_differs = in_full (other_expansion ∷ []) 0 refl (at_entry 0 (record {
+  other_differs : (IsText : List Entry → List ℕ → Type 0) → JournalOutcome (and_entry other_expansion spread_config) its_other_record IsText (status.Differs 0) None (differs_line 0)
+  other_differs IsText = in_full (other_expansion ∷ []) refl (differing 0 (at_entry 0 (record {
     entry = other_expansion;
     there = refl;
     world = one_alone;
@@ -122,34 +123,34 @@ module _ (goods : ReachedIsGood) where
         let same : expansion.patch ≡ other_expansion.patch = ap changes_of (sym (good goods).run.1.decided ∙ step.decided) in
         let first : cell.Spot None ≡ cell.Spot (Some 0) = ap (λ (ts : Triples). (get_or ts 0 (cell_name.Body 0, cell.Spot None, cell.Spot None)).1) same in
         cc;
-  }))
+  })))
 
   pub small_explanations : SmallExplanations
   unfolding digits name of_two_words number_of is_number_word
   small_explanations = record {
     agrees_in_full = served Replay full_text (and_full_journal spread_config) status.Done None _ in_full_text
-        (agreeing its_full_record (expansion ∷ []) full_agrees);
+        (its_full_record, full_agrees (λ es text. text ≡ agrees_line (length es)) _ refl);
     renew_in_full = served Renew full_text (and_full_journal spread_config) status.Done None _ in_full_text
-        (renewing its_full_record (expansion ∷ []) full_agrees);
+        (its_full_record, full_agrees (λ es text. text ≡ renewed_text out one_alone es spread_config) _ refl);
     other_old = served Replay other_old_text (and_entry other_expansion spread_config) (status.Differs 0) None _ (says form.Replay other_old_text (Ok (and_entry other_expansion spread_config)) are_answered.other_old)
-        (differing its_other_record 0 other_differs);
+        (its_other_record, other_differs (λ es text. text ≡ agrees_line (length es)));
     renew_other_old = served Renew other_old_text (and_entry other_expansion spread_config) (status.Differs 0) None _ (says form.Replay other_old_text (Ok (and_entry other_expansion spread_config)) are_answered.other_old)
-        (renew_differing its_other_record 0 other_differs);
+        (its_other_record, other_differs (λ es text. text ≡ renewed_text out one_alone es spread_config));
     first_place = served (Rewind 0) full_text (and_full_journal spread_config) status.Done None _ since_version_3
-        (unwound its_full_record (expansion ∷ []) 0 one_alone refl (omega arith) (at_place one_alone same_frame back_to_start));
+        (unwound its_full_record (expansion ∷ []) one_alone refl (omega arith) (at_place one_alone same_frame back_to_start));
     last_place = served (Rewind 1) full_text (and_full_journal spread_config) status.Done None _ since_version_3
-        (unwound its_full_record (expansion ∷ []) 1 spread_config refl (omega arith) (at_place spread_config same_frame back_at_end));
+        (unwound its_full_record (expansion ∷ []) spread_config refl (omega arith) (at_place spread_config same_frame back_at_end));
     no_place = served (Rewind 2) full_text (and_full_journal spread_config) (status.Refused no_such_place) None _ since_version_3
-        (no_place its_full_record (expansion ∷ []) 2 refl (omega arith));
+        (no_place its_full_record (expansion ∷ []) refl (omega arith));
     no_way_back = served (Rewind 0) still_full_text (and_full_journal one_alone) (status.Differs 0) None _ (says_since 3 form.Replay still_full_text (Ok (and_full_journal one_alone)) are_answered.still_journal)
-        (not_unwound its_still_record (expansion ∷ []) 0 0 refl (omega arith) (no_way_back 0 (record { area = refl; walls = refl; size = refl }) nowhere_back));
+        (not_unwound its_still_record (expansion ∷ []) 0 refl (omega arith) (no_way_back 0 (record { area = refl; walls = refl; size = refl }) nowhere_back));
     other_frame = served (Rewind 1) wide_full_text (and_full_journal wide_spread) (status.Differs 1) None _ (says_since 3 form.Replay wide_full_text (Ok (and_full_journal wide_spread)) are_answered.wide_journal)
-        (not_unwound its_wide_record (expansion ∷ []) 1 1 refl (omega arith) (other_frame another_frame));
+        (not_unwound its_wide_record (expansion ∷ []) 1 refl (omega arith) (other_frame another_frame));
     early = refused (Rewind 0) (with_shape ++ expansion_journal ++ spread_text) early_refused (says_since 3 form.Replay (with_shape ++ expansion_journal ++ spread_text) (Err early_refused) are_answered.early);
     rounds = served Rounds recorded_with_nobody and_empty_journal status.Done None _ (says form.Replay recorded_with_nobody (Ok and_empty_journal) are_answered.empty_journal)
-        (rounded its_empty_record [] 0 0 nobody_agrees no_rounds);
+        (its_empty_record, in_plain [] refl (agreeing [] _ refl refl (record { rounds = 0; waiting = 0; counted = no_rounds; whole = refl })));
     rounds_differ = served Rounds (with_shape ++ expansion_journal ++ still_text) (and_journal one_alone) (status.Differs 1) None _ (says form.Replay (with_shape ++ expansion_journal ++ still_text) (Ok (and_journal one_alone)) are_answered.other_final)
-        (not_rounded (its_record one_alone) 1 (its_journal_differs goods));
+        (its_record one_alone, its_journal_differs goods (IsRoundsText (verdict_shown out) one_alone));
     elect = served Elect recorded_with_nobody and_empty_journal (status.Refused not_erosion) None _ (says form.Replay recorded_with_nobody (Ok and_empty_journal) are_answered.empty_journal)
         (no_erosion its_empty_record other_program);
   }

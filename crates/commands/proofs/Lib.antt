@@ -14,6 +14,7 @@ pub mod ExampleLemmas
 pub mod ExplainExampleLemmas
 pub mod Interleaved
 pub mod Interleavings
+pub mod JournalLemmas
 pub mod MarkLemmas
 pub mod Measures
 pub mod NumberWords
@@ -31,7 +32,6 @@ pub mod ReportEntries
 pub mod Reported
 pub mod RewindLemmas
 pub mod RoundsDecided
-pub mod RoundsEnds
 pub mod RoundsLemmas
 pub mod SameConfigs
 pub mod SampleLemmas
@@ -41,7 +41,6 @@ pub mod SmallDocuments
 pub mod SomethingOwedLemmas
 pub mod SyntaxLemmas
 pub mod TaskLemmas
-pub mod Told
 pub mod ToldEntries
 pub mod WordsLemmas
 pub mod WorkExampleLemmas

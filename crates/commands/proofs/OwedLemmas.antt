@@ -1,17 +1,13 @@
 -- One thing is owed.
-use Rattle.std.proofs.Common.{◌≡◌, ◌<◌, ◌≤◌, ℕ, List, length, map, codes, Option, Some, Result, Ok, Err, inl, inr, ap, sym, subst, refl, ◌∙◌, arith}
+use Rattle.std.proofs.Common.{◌≡◌, ◌<◌, ◌≤◌, ℕ, List, length, codes, Option, Some, Result, Ok, Err, ap, sym, subst, refl, ◌∙◌, arith}
 use Rattle.std.specs.Prelude.{IfSome}
-use Rattle.std.proofs.lemmas.Bool.{cases_Bool}
-use Rattle.std.proofs.lemmas.Option.{none-some}
 use Rattle.text_tokens.specs.declared.refusal.Refusal.{Refusal}
 use Rattle.amoebot_state.specs.declared.verdict.Entry.{Entry}
-use Rattle.amoebot_state.specs.declared.verdict.PlainEntry.{PlainEntry}
 use Rattle.amoebot_state.specs.Configs.{Config}
 use Rattle.amoebot_state.specs.Steps.{OldValuesAreFound, plain_entry}
 use Rattle.model_ops.specs.Laws.{ActsKeepDeciderLaws}
 use Rattle.serial_model.specs.Forms.{full_entry}
 use Rattle.serial_model.specs.Laws.{PlainRunIsUnique}
-use Rattle.serial_model.proofs.Runs.{full_is_itself}
 use Rattle.claim_core.specs.declared.report.Report.{Report}
 use Rattle.claim_core.specs.Machine.{setup}
 use Rattle.claim_core.specs.Reached.{Reached}
@@ -21,25 +17,22 @@ use Rattle.claim_core.proofs.Places.{one_at}
 use Rattle.rewind_log.specs.Laws.{UnwoundIsUnique}
 use Rattle.rewind_log.specs.Unwinding.{IsUnwound}
 use Rattle.round_meter.specs.Laws.{RoundsAreUnique}
-use Rattle.round_meter.specs.Rounds.{IsRounded}
-use Rattle.shape_checks.specs.Values.{value_count}
 use Rattle.action_tree.specs.Trees.{Program}
 use Rattle.action_meaning.specs.Laws.{ProgramsDecideByActs}
 use Rattle.action_meaning.specs.Verdicts.{verdict_shown}
-use Rattle.node_text.specs.Parts.{has_old_values}
 use Rattle.shape_text.specs.Texts.{shape_text}
 use Rattle.shape_files.specs.Documents.{Contents}
 use Rattle.shape_files.specs.LeastVersions.{DecidedFromEach, LaterIsDocument}
 use Rattle.shape_files.specs.Fitting.{FitTogether, DocumentsFit}
-use Rattle.election_law.specs.Elections.{IsErosion, IsReadyStart, cand_var, leader_of}
+use Rattle.election_law.specs.Elections.{IsErosion, IsReadyStart}
 use Rattle.run_sample.specs.Laws.{SampleIsFit}
 use Rattle.commands.specs.Run.{IsRunReport}
 use Rattle.commands.specs.Interleave.{IsInterleaveReport}
-use Rattle.commands.specs.Elect.{election_text}
-use Rattle.commands.specs.Rounds.{rounds_text}
-use Rattle.commands.specs.Replay.{agrees_line, differs_line, Agrees, DiffersAt}
+use Rattle.commands.specs.Elect.{no_erosion, not_ready, ElectOutcome, elected_text, begun}
+use Rattle.commands.specs.Rounds.{rounds_text, IsRoundsText}
+use Rattle.commands.specs.Replay.{agrees_line}
 use Rattle.commands.specs.Renew.{renewed_text}
-use Rattle.commands.specs.Reports.{report_text}
+use Rattle.commands.specs.Reports.{report_text, DocumentLists, reported}
 use Rattle.commands.specs.Check.{check_text}
 use Rattle.commands.specs.Measure.{IsMeasureText}
 use Rattle.commands.specs.ReportLaws.{GoodStaysConnected, RunReportIsOne, InterleaveReportIsOne, ReplayIsDecided, MeasureTextIsOne, SameReport}
@@ -48,13 +41,18 @@ use Rattle.commands.specs.declared.words.DocumentCommand.{DocumentCommand}
 use Rattle.commands.specs.declared.status.Status.{Status}
 use Rattle.commands.specs.declared.status.Status.TheVariants as status
 use Rattle.commands.specs.Lines.{refusal_line}
-use Rattle.commands.specs.Outcomes.{DocumentLists, DocumentRecord, TellsEntries, JournalAgrees, JournalDiffers, in_full, in_plain, IsOutcome, of_run, of_tickets, of_interleave, agreeing, differing, of_check, of_measure, renewing, renew_differing, no_place, unwound, not_unwound, rounded, not_rounded, no_erosion, not_ready, not_elected, elected}
+use Rattle.commands.specs.Outcomes.{IsOutcome}
 use Rattle.commands.specs.Commands.{form_of, least_for, IsDocumentOf, IsDocumentFaultOf}
 use Rattle.commands.specs.Owed.{usage, read_fault, longer, refused, served, shown, sampled}
 use Rattle.commands.specs.Reads.{whole}
 use Rattle.commands.specs.Laws.{SameOwed, OwedIsOne}
 use Rattle.commands.proofs.CommandDocuments.{of_form}
 use Rattle.commands.proofs.SampleLemmas.{text_is_six_lines}
+use Rattle.commands.specs.Recorded.{differs_line, Agrees, DocumentRecord, JournalOutcome}
+use Rattle.commands.specs.Rewind.{no_place, unwound, not_unwound, RewindOutcome}
+use Rattle.commands.specs.Texts.{written}
+use Rattle.commands.specs.declared.words.DocumentCommand.TheVariants.{Run, Interleave, Replay, Check, Measure, Renew, Rewind, Rounds, Elect, Tickets}
+use Rattle.commands.proofs.JournalLemmas.{JournalRules, SameEnd, one_journal, one_record}
 
 module _ (documents : DecidedFromEach) where
   pub same_contents : (c : DocumentCommand) (bytes : List ℕ) (a b : Contents) → IsDocumentOf c bytes a → IsDocumentOf c bytes b → a ≡ b
@@ -73,60 +71,6 @@ one_lists a d e =
     let shape = one_at _ e.start d.start e.its_shape d.its_shape in
     let lists = one_at _ e.lists d.lists e.its_lists d.its_lists in
     λ i. (program i, shape i, lists i)
-
-one_record : (a : Contents) (d e : DocumentRecord a) → ◌≡◌ {A = Program × Config × Config} (e.program, e.start, e.final) (d.program, d.start, d.final)
-one_record a d e =
-    let program = one_at _ e.program d.program e.its_program d.its_program in
-    let shape = one_at _ e.start d.start e.its_shape d.its_shape in
-    let final = one_at _ e.final d.final e.its_final d.its_final in
-    λ i. (program i, shape i, final i)
-
--- ---- the journal of a document
-
--- it has old values or none, by the version
-not_in_both : (a : Contents) (es : List Entry) (ps : List PlainEntry) → FitTogether a → a.entries ≡ Some es → a.plain ≡ Some ps → ⊥
-not_in_both a es ps fit full plain = elim (cases_Bool (has_old_values a.version)) [
-  | inl is ↦ none-some ps (sym (fit.by_version.0 is) ∙ plain)
-  | inr without ↦ none-some es (sym (fit.by_version.1 without) ∙ full)
-]
-
--- what is said of it is said of one program, one shape and one final shape
-agrees_as : (a : Contents) (d e : DocumentRecord a) (es : List Entry) → JournalAgrees a e es → JournalAgrees a d es
-agrees_as a d e es x = record { told = x.told; agrees = subst (λ (z : Program × Config × Config). Agrees (verdict_shown z.0) z.1 es z.2) (one_record a d e) x.agrees }
-
-differs_as : (a : Contents) (d e : DocumentRecord a) (place : ℕ) → JournalDiffers a e place → JournalDiffers a d place
-differs_as a d e place (in_full es there its by) = in_full es there its (subst (λ (z : Program × Config × Config). DiffersAt full_entry (verdict_shown z.0) z.1 es z.2 there) (one_record a d e) by)
-differs_as a d e place (in_plain ps there its by) = in_plain ps there its (subst (λ (z : Program × Config × Config). DiffersAt plain_entry (verdict_shown z.0) z.1 ps z.2 there) (one_record a d e) by)
-
-module _ (full : ReplayIsDecided full_entry) (plain : ReplayIsDecided plain_entry) (unique : PlainRunIsUnique) (a : Contents) (fit : FitTogether a) (d : DocumentRecord a) where
-  -- it agrees by the entries of one run
-  same_entries : (es ds : List Entry) → JournalAgrees a d es → JournalAgrees a d ds → es ≡ ds
-  same_entries es ds x y = by x.told y.told
-    where
-      by : TellsEntries a es → TellsEntries a ds → es ≡ ds
-      by (inl one) (inl two) = one_at _ es ds one two
-      by (inl one) (inr two) = absurd (not_in_both a es (map plain_entry ds) fit one two)
-      by (inr one) (inl two) = absurd (not_in_both a ds (map plain_entry es) fit two one)
-      by (inr one) (inr two) = (unique (verdict_shown d.program) d.start d.final d.final es ds x.agrees y.agrees (one_at _ (map plain_entry es) (map plain_entry ds) one two)).0
-
-  -- where it differs it does not agree, and it differs at one place
-  not_agreeing : (es : List Entry) (place : ℕ) → JournalAgrees a d es → JournalDiffers a d place → ⊥
-  not_agreeing es place x (in_full ds there its by) = elim x.told [
-    | inl one ↦ full.exclusive (verdict_shown d.program) d.start d.final es there ((full_is_itself.run (verdict_shown d.program) d.start d.final es).1 x.agrees) (subst (λ (zs : List Entry). DiffersAt full_entry (verdict_shown d.program) d.start zs d.final there) (one_at _ ds es its one) by)
-    | inr one ↦ not_in_both a ds (map plain_entry es) fit its one
-  ]
-  not_agreeing es place x (in_plain ps there its by) = elim x.told [
-    | inl one ↦ not_in_both a es ps fit one its
-    | inr one ↦ plain.exclusive (verdict_shown d.program) d.start d.final ps there (record { source = es; tells = one_at _ (map plain_entry es) ps one its; holds = x.agrees }) by
-  ]
-
-  same_place : (one two : ℕ) → JournalDiffers a d one → JournalDiffers a d two → one ≡ two
-  same_place one two (in_full es here its by) (in_full ds there other differ) =
-      full.one_place (verdict_shown d.program) d.start d.final es here there by (subst (λ (zs : List Entry). DiffersAt full_entry (verdict_shown d.program) d.start zs d.final there) (one_at _ ds es other its) differ)
-  same_place one two (in_full es here its by) (in_plain ps there other differ) = absurd (not_in_both a es ps fit its other)
-  same_place one two (in_plain ps here its by) (in_full es there other differ) = absurd (not_in_both a es ps fit other its)
-  same_place one two (in_plain ps here its by) (in_plain qs there other differ) =
-      plain.one_place (verdict_shown d.program) d.start d.final ps here there by (subst (λ (zs : List PlainEntry). DiffersAt plain_entry (verdict_shown d.program) d.start zs d.final there) (one_at _ qs ps other its) differ)
 
 -- ---- ways back, rounds and elections
 
@@ -149,11 +93,6 @@ one_end k m e = cc
 
 no_world : (w : Config) (k : ℕ) → ◌≡◌ {A = Result Config ℕ} (Ok w) (Err k) → ⊥
 no_world w k e = cc
-
-rounded_as : (a : Contents) (d e : DocumentRecord a) (es ds : List Entry) (rounds waiting : ℕ) → ds ≡ es → IsRounded (verdict_shown e.program) e.start ds rounds waiting → IsRounded (verdict_shown d.program) d.start es rounds waiting
-rounded_as a d e es ds rounds waiting same is =
-    let parts = one_record a d e in
-    subst (λ (z : (Program × Config × Config) × List Entry). IsRounded (verdict_shown z.0.0) z.0.1 z.1 rounds waiting) (λ i. (parts i, same i)) is
 
 erosion_as : (a : Contents) (d e : DocumentRecord a) → IsErosion e.program → IsErosion d.program
 erosion_as a d e is = subst IsErosion (one_at _ e.program d.program e.its_program d.its_program) is
@@ -205,16 +144,8 @@ module _ (laws : OneOfEach) where
   fits : (bytes : List ℕ) (a : Contents) (c : DocumentCommand) → IsDocumentOf c bytes a → FitTogether a
   fits bytes a c h = (laws.together (form_of c) bytes a (of_form laws.later c bytes a h)).together
 
-  -- what is told of the journal
-  module _ (bytes : List ℕ) (a : Contents) (c : DocumentCommand) (h : IsDocumentOf c bytes a) (d e : DocumentRecord a) where
-    same_run : (es ds : List Entry) → JournalAgrees a d es → JournalAgrees a e ds → es ≡ ds
-    same_run es ds x y = same_entries laws.full laws.plain laws.unique a (fits bytes a c h) d es ds x (agrees_as a d e ds y)
-
-    no_run : (es : List Entry) (place : ℕ) → JournalAgrees a d es → JournalDiffers a e place → ⊥
-    no_run es place x y = not_agreeing laws.full laws.plain laws.unique a (fits bytes a c h) d es place x (differs_as a d e place y)
-
-    same_end : (one two : ℕ) → JournalDiffers a d one → JournalDiffers a e two → one ≡ two
-    same_end one two x y = same_place laws.full laws.plain laws.unique a (fits bytes a c h) d one two x (differs_as a d e two y)
+  rules : JournalRules
+  rules = record { full = laws.full; plain = laws.plain; unique = laws.unique }
 
   found : (p : Program) → OldValuesAreFound (verdict_shown p)
   found p b i change by = (laws.decide (verdict_shown p) (laws.acts p) b i change by).found
@@ -223,81 +154,74 @@ module _ (laws : OneOfEach) where
       → IsUnwound (verdict_shown d.program) d.start d.final es place r → IsUnwound (verdict_shown e.program) e.start e.final ds place q → r ≡ q
   one_way a d e es ds place r q its other x y = laws.backs (verdict_shown d.program) d.start d.final es place r q (found d.program) x (back_as a d e es ds place q its other y)
 
-  one_outcome : (bytes : List ℕ) (a : Contents) (c : DocumentCommand) (s t : Status) (one two : Option Report) (text other : List ℕ) → IsDocumentOf c bytes a
+  -- the journal of a document of a command
+  module _ (bytes : List ℕ) (a : Contents) (c : DocumentCommand) (h : IsDocumentOf c bytes a) (s t : Status) (one two : Option Report) (text other : List ℕ) where
+    alike : SameEnd s t one two text other → SameOwed (Some (Document c)) (whole bytes) s t one two text other
+    alike x = record { status = x.status; report = λ _. x.report; text = λ _. x.text }
+
+    -- its text is that of the record's parts
+    told_once : (Text : Program × Config × Config → List Entry → List ℕ) (d e : DocumentRecord a)
+        → JournalOutcome a d (λ (es : List Entry) (u : List ℕ). u ≡ Text (d.program, d.start, d.final) es) s one text
+        → JournalOutcome a e (λ (es : List Entry) (u : List ℕ). u ≡ Text (e.program, e.start, e.final) es) t two other
+        → SameOwed (Some (Document c)) (whole bytes) s t one two text other
+    told_once Text d e x y = alike (one_journal rules a (fits bytes a c h) (λ (z : Program × Config × Config) (es : List Entry) (u : List ℕ). u ≡ Text z es) (λ z es u v run is so. is ∙ sym so) d e s t one two text other x y)
+
+    counted_once : (d e : DocumentRecord a) → JournalOutcome a d (IsRoundsText (verdict_shown d.program) d.start) s one text → JournalOutcome a e (IsRoundsText (verdict_shown e.program) e.start) t two other
+        → SameOwed (Some (Document c)) (whole bytes) s t one two text other
+    counted_once d e x y = alike (one_journal rules a (fits bytes a c h) (λ (z : Program × Config × Config). IsRoundsText (verdict_shown z.0) z.1) one_count d e s t one two text other x y)
+      where
+        one_count : (z : Program × Config × Config) (es : List Entry) (u v : List ℕ) → Agrees (verdict_shown z.0) z.1 es z.2 → IsRoundsText (verdict_shown z.0) z.1 es u → IsRoundsText (verdict_shown z.0) z.1 es v → u ≡ v
+        one_count z es u v run is so = let by = laws.counts (verdict_shown z.0) z.1 es is.rounds is.waiting so.rounds so.waiting is.counted so.counted in is.whole ∙ (λ i. rounds_text (by.0 i) (by.1 i)) ∙ sym so.whole
+
+  one_way_back : (bytes : List ℕ) (a : Contents) (place : ℕ) (s t : Status) (one two : Option Report) (text other : List ℕ) → RewindOutcome a place s one text → RewindOutcome a place t two other → SameEnd s t one two text other
+  one_way_back bytes a place s t one two text other (no_place d es its above) (no_place e ds yours beyond) = record { status = refl; report = tt; text = refl }
+  one_way_back bytes a place s t one two text other (no_place d es its above) (unwound e ds w yours within is) = absurd (not_past a es ds place its yours above within)
+  one_way_back bytes a place s t one two text other (no_place d es its above) (not_unwound e ds k yours within is) = absurd (not_past a es ds place its yours above within)
+  one_way_back bytes a place s t one two text other (unwound d es w its within is) (no_place e ds yours above) = absurd (not_past a ds es place yours its above within)
+  one_way_back bytes a place s t one two text other (unwound d es w its within is) (unwound e ds v yours inside so) =
+      let worlds = one_world w v (one_way a d e es ds place (Ok w) (Ok v) its yours is so) in
+      let parts = sym (one_record a d e) in
+      record { status = refl; report = tt; text = λ i. shape_text (codes "shape") (length (parts i).0.vars) (worlds i) }
+  one_way_back bytes a place s t one two text other (unwound d es w its within is) (not_unwound e ds k yours inside so) = absurd (no_world w k (one_way a d e es ds place (Ok w) (Err k) its yours is so))
+  one_way_back bytes a place s t one two text other (not_unwound d es k its within is) (no_place e ds yours above) = absurd (not_past a ds es place yours its above within)
+  one_way_back bytes a place s t one two text other (not_unwound d es k its within is) (unwound e ds w yours inside so) = absurd (no_world w k (sym (one_way a d e es ds place (Err k) (Ok w) its yours is so)))
+  one_way_back bytes a place s t one two text other (not_unwound d es k its within is) (not_unwound e ds m yours inside so) =
+      let ends = one_end k m (one_way a d e es ds place (Err k) (Err m) its yours is so) in
+      record { status = ap status.Differs ends; report = tt; text = ap differs_line ends }
+
+  one_election : (bytes : List ℕ) (a : Contents) (s t : Status) (one two : Option Report) (text other : List ℕ) → IsDocumentOf Elect bytes a → ElectOutcome a s one text → ElectOutcome a t two other → SameOwed (Some (Document Elect)) (whole bytes) s t one two text other
+  one_election bytes a s t one two text other h (no_erosion d not) (no_erosion e none) = record { status = refl; report = λ _. tt; text = λ _. refl }
+  one_election bytes a s t one two text other h (no_erosion d not) (not_ready e is none) = absurd (not (erosion_as a d e is))
+  one_election bytes a s t one two text other h (no_erosion d not) (begun e u r v is ready y) = absurd (not (erosion_as a d e is))
+  one_election bytes a s t one two text other h (not_ready d is not) (no_erosion e none) = absurd (none (erosion_as a e d is))
+  one_election bytes a s t one two text other h (not_ready d is not) (not_ready e so none) = record { status = refl; report = λ _. tt; text = λ _. refl }
+  one_election bytes a s t one two text other h (not_ready d is not) (begun e u r v so ready y) = absurd (not (ready_as a d e ready))
+  one_election bytes a s t one two text other h (begun d u r v is ready x) (no_erosion e none) = absurd (none (erosion_as a e d is))
+  one_election bytes a s t one two text other h (begun d u r v is ready x) (not_ready e so none) = absurd (none (ready_as a e d ready))
+  one_election bytes a s t one two text other h (begun d u r v is ready x) (begun e w q z so steady y) =
+      told_once bytes a Elect h s t one two text other (λ (z : Program × Config × Config) (es : List Entry). elected_text z.2) d e x y
+
+  one_outcome : (c : DocumentCommand) (bytes : List ℕ) (a : Contents) (s t : Status) (one two : Option Report) (text other : List ℕ) → IsDocumentOf c bytes a
       → IsOutcome a c s one text → IsOutcome a c t two other → SameOwed (Some (Document c)) (whole bytes) s t one two text other
-  one_outcome bytes a c s t one two text other h (of_run d r run) (of_run e q other_run) =
+  one_outcome Run bytes a s t one two text other h (reported d r run) (reported e q other_run) =
       let same = λ (decided : IfSome a.lists (λ lists. length lists.ids ≤ 1)). run_is_one a d e r q decided run other_run in
-      record { status = refl; report = λ decided. (same (decided a h)).0; text = λ decided. (same (decided a h)).1 }
-  one_outcome bytes a c s t one two text other h (of_tickets d r run) (of_tickets e q other_run) =
+      record { status = refl; report = λ decided. (same (decided tt a h)).0; text = λ decided. (same (decided tt a h)).1 }
+  one_outcome Tickets bytes a s t one two text other h (reported d r run) (reported e q other_run) =
       let first = laws.claimed (setup (verdict_shown d.program) d.start d.lists) r run.reached in
       let second = laws.claimed (setup (verdict_shown e.program) e.start e.lists) q other_run.reached in
       let same = λ (decided : IfSome a.lists (λ lists. length lists.ids ≤ 1)). run_is_one a d e r q decided (record { good = run.good; reached = first; serial = run.serial }) (record { good = other_run.good; reached = second; serial = other_run.serial }) in
-      record { status = refl; report = λ decided. (same (decided a h)).0; text = λ decided. (same (decided a h)).1 }
-  one_outcome bytes a c s t one two text other h (of_interleave d schedule r its_schedule run) (of_interleave e steps q its_steps other_run) =
+      record { status = refl; report = λ decided. (same (decided tt a h)).0; text = λ decided. (same (decided tt a h)).1 }
+  one_outcome Interleave bytes a s t one two text other h (reported d r (schedule, its_schedule, run)) (reported e q (steps, its_steps, other_run)) =
       let same = interleave_is_one a d e schedule steps r q its_schedule its_steps run other_run in
       record { status = refl; report = λ _. same.0; text = λ _. same.1 }
-  one_outcome bytes a c s t one two text other h (agreeing d es agrees) (agreeing e ds agree) =
-      let same = same_run bytes a c h d e es ds agrees agree in
-      record { status = refl; report = λ _. tt; text = λ _. ap (λ (zs : List Entry). agrees_line (length zs)) same }
-  one_outcome bytes a c s t one two text other h (agreeing d es agrees) (differing e place differs) = absurd (no_run bytes a c h d e es place agrees differs)
-  one_outcome bytes a c s t one two text other h (differing d place differs) (agreeing e es agrees) = absurd (no_run bytes a c h e d es place agrees differs)
-  one_outcome bytes a c s t one two text other h (differing d place differs) (differing e there differ) =
-      let same = same_end bytes a c h d e place there differs differ in
-      record { status = ap status.Differs same; report = λ _. tt; text = λ _. ap differs_line same }
-  one_outcome bytes a c s t one two text other h (renewing d es agrees) (renewing e ds agree) =
-      let same = same_run bytes a c h d e es ds agrees agree in
-      let parts = sym (one_record a d e) in
-      record { status = refl; report = λ _. tt; text = λ _ i. renewed_text (parts i).0 (parts i).1 (same i) (parts i).2 }
-  one_outcome bytes a c s t one two text other h (renewing d es agrees) (renew_differing e place differs) = absurd (no_run bytes a c h d e es place agrees differs)
-  one_outcome bytes a c s t one two text other h (renew_differing d place differs) (renewing e es agrees) = absurd (no_run bytes a c h e d es place agrees differs)
-  one_outcome bytes a c s t one two text other h (renew_differing d place differs) (renew_differing e there differ) =
-      let same = same_end bytes a c h d e place there differs differ in
-      record { status = ap status.Differs same; report = λ _. tt; text = λ _. ap differs_line same }
-  one_outcome bytes a c s t one two text other h (of_check p its_program) (of_check q its_other) = record { status = refl; report = λ _. tt; text = λ _. ap (check_text a.version) (one_at _ p q its_program its_other) }
-  one_outcome bytes a c s t one two text other h (of_measure last u its_last measured) (of_measure end v its_end measure) =
+  one_outcome Replay bytes a s t one two text other h (d, x) (e, y) = told_once bytes a Replay h s t one two text other (λ (z : Program × Config × Config) (es : List Entry). agrees_line (length es)) d e x y
+  one_outcome Check bytes a s t one two text other h (written u (p, its_program, is)) (written v (q, its_other, so)) = record { status = refl; report = λ _. tt; text = λ _. is ∙ ap (check_text a.version) (one_at _ p q its_program its_other) ∙ sym so }
+  one_outcome Measure bytes a s t one two text other h (written u (last, its_last, measured)) (written v (end, its_end, measure)) =
       record { status = refl; report = λ _. tt; text = λ _. laws.measures last u v measured (subst (λ (w : Config). IsMeasureText w v) (one_at _ end last its_end its_last) measure) }
-  one_outcome bytes a c s t one two text other h (no_place d es place its above) (no_place e ds same yours beyond) = record { status = refl; report = λ _. tt; text = λ _. refl }
-  one_outcome bytes a c s t one two text other h (no_place d es place its above) (unwound e ds same w yours within is) = absurd (not_past a es ds place its yours above within)
-  one_outcome bytes a c s t one two text other h (no_place d es place its above) (not_unwound e ds same k yours within is) = absurd (not_past a es ds place its yours above within)
-  one_outcome bytes a c s t one two text other h (unwound d es place w its within is) (no_place e ds same yours above) = absurd (not_past a ds es place yours its above within)
-  one_outcome bytes a c s t one two text other h (unwound d es place w its within is) (unwound e ds same v yours inside so) =
-      let worlds = one_world w v (one_way a d e es ds place (Ok w) (Ok v) its yours is so) in
-      let parts = sym (one_record a d e) in
-      record { status = refl; report = λ _. tt; text = λ _ i. shape_text (codes "shape") (length (parts i).0.vars) (worlds i) }
-  one_outcome bytes a c s t one two text other h (unwound d es place w its within is) (not_unwound e ds same k yours inside so) = absurd (no_world w k (one_way a d e es ds place (Ok w) (Err k) its yours is so))
-  one_outcome bytes a c s t one two text other h (not_unwound d es place k its within is) (no_place e ds same yours above) = absurd (not_past a ds es place yours its above within)
-  one_outcome bytes a c s t one two text other h (not_unwound d es place k its within is) (unwound e ds same w yours inside so) = absurd (no_world w k (sym (one_way a d e es ds place (Err k) (Ok w) its yours is so)))
-  one_outcome bytes a c s t one two text other h (not_unwound d es place k its within is) (not_unwound e ds same m yours inside so) =
-      let ends = one_end k m (one_way a d e es ds place (Err k) (Err m) its yours is so) in
-      record { status = ap status.Differs ends; report = λ _. tt; text = λ _. ap differs_line ends }
-  one_outcome bytes a c s t one two text other h (rounded d es rounds waiting agrees is) (rounded e ds others still agree so) =
-      let same = same_run bytes a c h d e es ds agrees agree in
-      let by = laws.counts (verdict_shown d.program) d.start es rounds waiting others still is (rounded_as a d e es ds others still (sym same) so) in
-      record { status = refl; report = λ _. tt; text = λ _ i. rounds_text (by.0 i) (by.1 i) }
-  one_outcome bytes a c s t one two text other h (rounded d es rounds waiting agrees is) (not_rounded e place differs) = absurd (no_run bytes a c h d e es place agrees differs)
-  one_outcome bytes a c s t one two text other h (not_rounded d place differs) (rounded e es rounds waiting agrees is) = absurd (no_run bytes a c h e d es place agrees differs)
-  one_outcome bytes a c s t one two text other h (not_rounded d place differs) (not_rounded e there differ) =
-      let same = same_end bytes a c h d e place there differs differ in
-      record { status = ap status.Differs same; report = λ _. tt; text = λ _. ap differs_line same }
-  one_outcome bytes a c s t one two text other h (no_erosion d not) (no_erosion e none) = record { status = refl; report = λ _. tt; text = λ _. refl }
-  one_outcome bytes a c s t one two text other h (no_erosion d not) (not_ready e is none) = absurd (not (erosion_as a d e is))
-  one_outcome bytes a c s t one two text other h (no_erosion d not) (not_elected e place is ready differs) = absurd (not (erosion_as a d e is))
-  one_outcome bytes a c s t one two text other h (no_erosion d not) (elected e es is ready agrees) = absurd (not (erosion_as a d e is))
-  one_outcome bytes a c s t one two text other h (not_ready d is not) (no_erosion e none) = absurd (none (erosion_as a e d is))
-  one_outcome bytes a c s t one two text other h (not_ready d is not) (not_ready e so none) = record { status = refl; report = λ _. tt; text = λ _. refl }
-  one_outcome bytes a c s t one two text other h (not_ready d is not) (not_elected e place so ready differs) = absurd (not (ready_as a d e ready))
-  one_outcome bytes a c s t one two text other h (not_ready d is not) (elected e es so ready agrees) = absurd (not (ready_as a d e ready))
-  one_outcome bytes a c s t one two text other h (not_elected d place is ready differs) (no_erosion e none) = absurd (none (erosion_as a e d is))
-  one_outcome bytes a c s t one two text other h (not_elected d place is ready differs) (not_ready e so none) = absurd (none (ready_as a e d ready))
-  one_outcome bytes a c s t one two text other h (not_elected d place is ready differs) (not_elected e there so steady differ) =
-      let same = same_end bytes a c h d e place there differs differ in
-      record { status = ap status.Differs same; report = λ _. tt; text = λ _. ap differs_line same }
-  one_outcome bytes a c s t one two text other h (not_elected d place is ready differs) (elected e es so steady agrees) = absurd (no_run bytes a c h e d es place agrees differs)
-  one_outcome bytes a c s t one two text other h (elected d es is ready agrees) (no_erosion e none) = absurd (none (erosion_as a e d is))
-  one_outcome bytes a c s t one two text other h (elected d es is ready agrees) (not_ready e so none) = absurd (none (ready_as a e d ready))
-  one_outcome bytes a c s t one two text other h (elected d es is ready agrees) (not_elected e place so steady differs) = absurd (no_run bytes a c h d e es place agrees differs)
-  one_outcome bytes a c s t one two text other h (elected d es is ready agrees) (elected e ds so steady agree) =
-      record { status = refl; report = λ _. tt; text = λ _. ap (λ (w : Config). election_text (value_count w cand_var 1) (leader_of w)) (one_at _ d.final e.final d.its_final e.its_final) }
+  one_outcome Renew bytes a s t one two text other h (d, x) (e, y) = told_once bytes a Renew h s t one two text other (λ (z : Program × Config × Config) (es : List Entry). renewed_text z.0 z.1 es z.2) d e x y
+  one_outcome (Rewind place) bytes a s t one two text other h x y = alike bytes a (Rewind place) h s t one two text other (one_way_back bytes a place s t one two text other x y)
+  one_outcome Rounds bytes a s t one two text other h (d, x) (e, y) = counted_once bytes a Rounds h s t one two text other d e x y
+  one_outcome Elect bytes a s t one two text other h x y = one_election bytes a s t one two text other h x y
 
   pub owed_is_one : OwedIsOne
   owed_is_one c read s t one two text other usage usage = record { status = refl; report = λ _. tt; text = λ _. refl }
@@ -307,6 +231,6 @@ module _ (laws : OneOfEach) where
   owed_is_one c read s t one two text other (refused d bytes r x) (served e same a u q v y is) = absurd (not_both laws.documents d bytes a r y x)
   owed_is_one c read s t one two text other (served d bytes a u q v x is) (refused e same r y) = absurd (not_both laws.documents d bytes a r x y)
   owed_is_one c read s t one two text other (served d bytes a u q v x is) (served e same b w r z y other_is) =
-      one_outcome bytes a d s t one two text other x is (subst (λ (k : Contents). IsOutcome k d t two other) (same_contents laws.documents d bytes b a y x) other_is)
+      one_outcome d bytes a s t one two text other x is (subst (λ (k : Contents). IsOutcome k d t two other) (same_contents laws.documents d bytes b a y x) other_is)
   owed_is_one c read s t one two text other (shown p) (shown q) = record { status = refl; report = λ _. tt; text = λ _. refl }
   owed_is_one c read s t one two text other (sampled seed r v x) (sampled same q u y) = record { status = refl; report = λ decided. absurd decided; text = λ _. text_is_six_lines laws.stays laws.fit seed r v x ∙ sym (text_is_six_lines laws.stays laws.fit seed q u y) }

@@ -20,7 +20,7 @@ use Rattle.run_sample.specs.Callers.{sample_lists}
 use Rattle.run_sample.specs.Laws.{SampleIsFit}
 use Rattle.run_sample.specs.Whole.{IsSample}
 use Rattle.commands.specs.ReportLaws.{GoodIsFew}
-use Rattle.commands.specs.Reports.{report_text}
+use Rattle.commands.specs.Reports.{report_text, reported}
 use Rattle.commands.specs.Sample.{IsSampleText}
 use Rattle.commands.specs.declared.words.Command.TheVariants.{Document, Sample}
 use Rattle.commands.specs.declared.words.DocumentCommand.TheVariants.{Run, Tickets}
@@ -33,9 +33,8 @@ use Rattle.commands.specs.declared.answer.Telling.TheVariants as telling
 use Rattle.commands.specs.declared.status.Status.TheVariants as status
 use Rattle.commands.specs.Commands.{IsDocumentOf}
 use Rattle.commands.specs.Reads.{nothing, whole}
-use Rattle.commands.specs.Outcomes.{of_run, of_tickets}
 use Rattle.commands.specs.Owed.{IsOwed, served, sampled}
-use Rattle.commands.specs.Answers.{IsCounted, IsPrepared, IsRunFor, ReachedBy, TellsReport, Tells, of_document, of_number, done_with, turn_maker}
+use Rattle.commands.specs.Answers.{IsCounted, IsPrepared, IsRunFor, ReachedBy, TellsReport, Tells, of_document, of_number, turn_maker, with_report}
 
 -- what workers leave, an interleaving gives
 reached_by : (m : Maker) (g : Setup) (report : Report) → m ≡ maker.Workers → ReachedBy m g report → Reached g report
@@ -53,7 +52,7 @@ prepares serials a bytes run h its_program its_shape its_lists its_telling its_m
       let whole_text : text ≡ report_text a.version (length run.runner.vars) report = subst (λ (t : Telling). Tells t run.runner run.lists report text) its_telling tells in
       subst (λ (t : List ℕ). IsOwed (Some (Document Run)) (whole bytes) status.Done (Some report) t) (sym whole_text)
       (served Run bytes a status.Done (Some report) (report_text a.version (length run.runner.vars) report) h
-      (of_run (record { program = run.runner; start = run.world; lists = run.lists; its_program = its_program; its_shape = its_shape; its_lists = its_lists }) report (record {
+      (reported (record { program = run.runner; start = run.world; lists = run.lists; its_program = its_program; its_shape = its_shape; its_lists = its_lists }) report (record {
         good = good;
         reached = reached_by run.maker (setup (verdict_shown run.runner) run.world run.lists) report its_maker reached;
         serial = λ few. serials (verdict_shown run.runner) run.world run.lists report few good;
@@ -75,7 +74,7 @@ module _ (serials : OneListIsSerial) (bytes : List ℕ) (run : Prepared) (prepar
         let whole_text : text ≡ report_text a.version (length run.runner.vars) report = subst (λ (t : Telling). Tells t run.runner run.lists report text) its_telling tells in
         subst (λ (t : List ℕ). IsOwed (Some (Document Tickets)) (whole bytes) status.Done (Some report) t) (sym whole_text)
         (served Tickets bytes a status.Done (Some report) (report_text a.version (length run.runner.vars) report) h
-        (of_tickets (record { program = run.runner; start = run.world; lists = run.lists; its_program = its_program; its_shape = its_shape; its_lists = its_lists }) report
+        (reported (record { program = run.runner; start = run.world; lists = run.lists; its_program = its_program; its_shape = its_shape; its_lists = its_lists }) report
         (record { good = good; reached = reached; serial = λ few. serials (verdict_shown run.runner) run.world run.lists report few good })));
   }
 
@@ -117,11 +116,11 @@ pub few_vars : (p : Program) → is_writable p ≡ true → length p.vars ≤ mo
 few_vars p f = leb-true (length p.vars) most_vars (left_of _ _ (left_of _ _ (left_of _ _ f)))
 
 -- with another name for their number
-pub done_with_all : {E : Type 0} (version vars number : ℕ) (report : Report) (r : Result Answer E) → vars ≡ number → IfOk r (λ (a : Answer). a ≡ done_with version vars report) → IfOk r (λ (a : Answer). a ≡ done_with version number report)
-done_with_all version vars number report r e ok = subst (λ (v : ℕ). IfOk r (λ (a : Answer). a ≡ done_with version v report)) e ok
+pub with_report_of : {E : Type 0} (version vars number : ℕ) (report : Report) (r : Result Answer E) → vars ≡ number → IfOk r (λ (a : Answer). a ≡ with_report version vars report) → IfOk r (λ (a : Answer). a ≡ with_report version number report)
+with_report_of version vars number report r e ok = subst (λ (v : ℕ). IfOk r (λ (a : Answer). a ≡ with_report version v report)) e ok
 
 -- an answer with the report's own text tells it
-pub report_told : (version : ℕ) (p : Program) (lists : CallerLists) (report : Report) (t : Telling) (answer : Answer) → t ≡ telling.Report version → answer ≡ done_with version (length p.vars) report → TellsReport t p lists report answer
+pub report_told : (version : ℕ) (p : Program) (lists : CallerLists) (report : Report) (t : Telling) (answer : Answer) → t ≡ telling.Report version → answer ≡ with_report version (length p.vars) report → TellsReport t p lists report answer
 report_told version p lists report t answer is same = subst (λ (t : Telling). TellsReport t p lists report answer) (sym is) (record {
   done = ap (λ (a : Answer). a.status) same;
   its_report = ap (λ (a : Answer). a.report) same;

@@ -1,5 +1,5 @@
 -- What `renew` writes is a document on which `replay` agrees.
-use Rattle.std.proofs.Common.{◌≡◌, ◌≢◌, ℕ, ◌≤◌, true, List, [], ◌∷◌, ◌++◌, length, map, get_or, Option, Some, None, inl, inr, codes, decimal, refl, sym, ap, subst, ◌∙◌, true≢false, append_assoc, arith}
+use Rattle.std.proofs.Common.{◌≡◌, ℕ, ◌≤◌, true, List, [], ◌∷◌, ◌++◌, length, map, get_or, Option, Some, None, inl, inr, codes, decimal, refl, sym, ap, subst, ◌∙◌, true≢false, append_assoc, arith}
 use Rattle.std.specs.Prelude.{◌&&◌, nat_le, nat_lt}
 use Rattle.std.specs.Fmt.{digits}
 use Rattle.std.specs.Option.{option_map, IfSome}
@@ -35,18 +35,18 @@ use Rattle.shape_files.specs.LeastVersions.{DecidedFromEach}
 use Rattle.shape_files.specs.Fitting.{AreEntriesOf, DocumentsAreSound, DocumentsFit, FitTogether, IsSoundDocument, IsWorldShape, IsWritableProgram}
 use Rattle.shape_files.specs.WholeTexts.{DocumentsReadBack, HasBareContents, IsWritableDocument, IsWritableShape, bare_contents, document_text}
 use Rattle.commands.specs.Renew.{renewed_text}
-use Rattle.commands.specs.Replay.{agrees_line, differs_line}
-use Rattle.commands.specs.declared.words.DocumentCommand.TheVariants.{Replay, Renew}
-use Rattle.commands.specs.declared.status.Status.{Status}
+use Rattle.commands.specs.declared.words.DocumentCommand.TheVariants.{Renew}
 use Rattle.commands.specs.declared.status.Status.TheVariants as status
-use Rattle.commands.specs.Reads.{Read, whole}
-use Rattle.commands.specs.Outcomes.{DocumentRecord, IsOutcome, JournalAgrees, TellsEntries, agreeing, differing, renewing, renew_differing}
-use Rattle.commands.specs.Owed.{read_fault, longer, refused, served}
+use Rattle.commands.specs.Reads.{whole}
+use Rattle.commands.specs.Outcomes.{IsOutcome}
+use Rattle.commands.specs.Owed.{served}
 use Rattle.commands.specs.RenewLaws.{IsOwedFor, IsRenewed, RenewEndsAsReplay, RenewedIsReplayed, RenewedStays, renewed_contents}
 use Rattle.commands.proofs.DocumentWorlds.{drawn, may}
 use Rattle.commands.proofs.Entries.{IsNumbered, all_keep_limits}
 use Rattle.commands.proofs.Outcomes.{documents_have_outcomes}
 use Rattle.commands.proofs.Worlds.{MayRun, is_writable, maxes_are}
+use Rattle.commands.specs.Recorded.{DocumentRecord, JournalAgrees, TellsEntries}
+use Rattle.commands.proofs.JournalLemmas.{agreeing_journal, done_journal, ends_as_replay, replay_agrees, IsRenewedText}
 
 -- what the laws of lower crates say
 pub record RenewRules : Type 0 where
@@ -228,63 +228,32 @@ module _ (rules : RenewRules) (bytes : List ℕ) (a : Contents) (h : HasContents
     entries = es;
     told = is.told;
     document = record { contents = again.contents; has = document; same = again.same ∙ ap bare_contents its_parts };
-    agrees = served Replay renewed again.contents status.Done None (agrees_line (length es)) document (agreeing its_record es it_agrees);
+    agrees = replay_agrees renewed again.contents its_record es document it_agrees;
   }
 
   stays : IsOwedFor Renew (whole renewed) status.Done renewed
   stays = subst (IsOwedFor Renew (whole renewed) status.Done) (same_text rules d.program its_bare.0 its_bare.2 d.start es d.final)
-      (served Renew renewed again.contents status.Done None (renewed_text its_bare.0 d.start es d.final) document (renewing its_record es it_agrees))
+      (served Renew renewed again.contents status.Done None (renewed_text its_bare.0 d.start es d.final) document (its_record, agreeing_journal again.contents its_record (IsRenewedText again.contents its_record) es (renewed_text its_bare.0 d.start es d.final) it_agrees refl))
 
 renewed_outcome : RenewRules → (bytes : List ℕ) (a : Contents) (text : List ℕ) → HasContents form.Replay bytes a → IsOutcome a Renew status.Done None text → IsRenewed a text
-renewed_outcome rules bytes a text h (renewing d es is) = is_renewed rules bytes a h d es is
+renewed_outcome rules bytes a text h (d, x) =
+    let by = done_journal a d (IsRenewedText a d) text x in
+    subst (IsRenewed a) (sym by.is_text) (is_renewed rules bytes a h d by.entries by.agrees)
 
 pub renewed_is_replayed : RenewRules → DecidedFromEach → RenewedIsReplayed
 renewed_is_replayed rules documents bytes text a h owed within = renewed_outcome rules bytes a text h (documents_have_outcomes documents Renew bytes a status.Done None text h owed)
 
 outcome_stays : RenewRules → (bytes : List ℕ) (a : Contents) (text : List ℕ) → HasContents form.Replay bytes a → IsOutcome a Renew status.Done None text → IsOwedFor Renew (whole text) status.Done text
-outcome_stays rules bytes a text h (renewing d es is) = stays rules bytes a h d es is
+outcome_stays rules bytes a text h (d, x) =
+    let by = done_journal a d (IsRenewedText a d) text x in
+    subst (λ (t : List ℕ). IsOwedFor Renew (whole t) status.Done t) (sym by.is_text) (stays rules bytes a h d by.entries by.agrees)
 
 pub renewed_stays : RenewRules → RenewedStays
 renewed_stays rules bytes text (served c same a s report t h is) within = outcome_stays rules bytes a text h is
 
 -- ---- how it ends
 
-outcome_to_replay : (bytes : List ℕ) (a : Contents) (s : Status) (text : List ℕ) → s ≢ status.Done → HasContents form.Replay bytes a → IsOutcome a Renew s None text → IsOwedFor Replay (whole bytes) s text
-outcome_to_replay bytes a s text other h (renewing d es is) = absurd (other refl)
-outcome_to_replay bytes a s text other h (renew_differing d place is) = served Replay bytes a (status.Differs place) None (differs_line place) h (differing d place is)
-
-to_replay : (read : Read) (s : Status) (text : List ℕ) → s ≢ status.Done → IsOwedFor Renew read s text → IsOwedFor Replay read s text
-to_replay read s text other (read_fault c got) = read_fault Replay got
-to_replay read s text other (longer c got) = longer Replay got
-to_replay read s text other (refused c bytes r x) = refused Replay bytes r x
-to_replay read s text other (served c bytes a t report u h is) = outcome_to_replay bytes a s text other h is
-
-outcome_to_renew : (bytes : List ℕ) (a : Contents) (s : Status) (text : List ℕ) → s ≢ status.Done → HasContents form.Replay bytes a → IsOutcome a Replay s None text → IsOwedFor Renew (whole bytes) s text
-outcome_to_renew bytes a s text other h (agreeing d es is) = absurd (other refl)
-outcome_to_renew bytes a s text other h (differing d place is) = served Renew bytes a (status.Differs place) None (differs_line place) h (renew_differing d place is)
-
-to_renew : (read : Read) (s : Status) (text : List ℕ) → s ≢ status.Done → IsOwedFor Replay read s text → IsOwedFor Renew read s text
-to_renew read s text other (read_fault c got) = read_fault Renew got
-to_renew read s text other (longer c got) = longer Renew got
-to_renew read s text other (refused c bytes r x) = refused Renew bytes r x
-to_renew read s text other (served c bytes a t report u h is) = outcome_to_renew bytes a s text other h is
-
-done_outcome_by_replay : (bytes : List ℕ) (a : Contents) (text : List ℕ) → HasContents form.Replay bytes a → IsOutcome a Renew status.Done None text → (line : List ℕ) × IsOwedFor Replay (whole bytes) status.Done line
-done_outcome_by_replay bytes a text h (renewing d es is) = (agrees_line (length es), served Replay bytes a status.Done None (agrees_line (length es)) h (agreeing d es is))
-
-done_by_replay : (read : Read) (text : List ℕ) → IsOwedFor Renew read status.Done text → (line : List ℕ) × IsOwedFor Replay read status.Done line
-done_by_replay read text (served c bytes a t report u h is) = done_outcome_by_replay bytes a text h is
-
-done_outcome_by_renew : (bytes : List ℕ) (a : Contents) (line : List ℕ) → HasContents form.Replay bytes a → IsOutcome a Replay status.Done None line → (text : List ℕ) × IsOwedFor Renew (whole bytes) status.Done text
-done_outcome_by_renew bytes a line h (agreeing d es is) =
-    let text = renewed_text d.program d.start es d.final in
-    (text, served Renew bytes a status.Done None text h (renewing d es is))
-
-done_by_renew : (read : Read) (line : List ℕ) → IsOwedFor Replay read status.Done line → (text : List ℕ) × IsOwedFor Renew read status.Done text
-done_by_renew read line (served c bytes a t report u h is) = done_outcome_by_renew bytes a line h is
-
 pub renew_ends_as_replay : RenewEndsAsReplay
-renew_ends_as_replay read = record {
-  done = (λ owed. done_by_replay read owed.0 owed.1, λ owed. done_by_renew read owed.0 owed.1);
-  other = λ s text not_done. (to_replay read s text not_done, to_renew read s text not_done);
-}
+renew_ends_as_replay read = ends_as_replay Renew IsRenewedText
+    (λ bytes a h. h) (λ bytes a h. h) (λ bytes r x. x) (λ bytes r x. x) (λ a s report text is. is) (λ a s report text d x. (d, x))
+    (λ bytes a d es h agrees. (renewed_text d.program d.start es d.final, refl)) read

@@ -1,5 +1,5 @@
 -- A document with the text of its run behind it is one of Replay, and the journal agrees.
-use Rattle.std.proofs.Common.{◌≡◌, ℕ, ◌^◌, ◌<◌, ◌≤◌, Bool, true, false, List, [], ◌++◌, length, map, get_or, Option, Some, None, codes, refl, sym, ap, subst, ◌∙◌, arith, append_assoc, inl, inr}
+use Rattle.std.proofs.Common.{◌≡◌, ℕ, ◌^◌, ◌<◌, ◌≤◌, Bool, true, false, List, [], ◌++◌, length, map, get_or, Option, Some, codes, refl, sym, ap, subst, ◌∙◌, arith, append_assoc, inl, inr}
 use Rattle.std.specs.Prelude.{IsSome, if◌then◌else◌}
 use Rattle.std.specs.Option.{IfSome}
 use Rattle.std.specs.List.{All}
@@ -24,14 +24,13 @@ use Rattle.shape_files.specs.declared.section_kind.Form.TheVariants as form
 use Rattle.shape_files.specs.Documents.{Contents, var_count, actions_of, maxes_in, bots_of, HasContents}
 use Rattle.shape_files.specs.RunTexts.{run_text, recorded_with, KeepsRunLimits, EndsLine, RunsAreReplayed}
 use Rattle.shape_files.specs.Fitting.{FitTogether, DocumentsAreSound, DocumentsFit, IsSoundDocument, IsWorldShape}
-use Rattle.commands.specs.Reports.{report_text}
-use Rattle.commands.specs.Replay.{agrees_line}
+use Rattle.commands.specs.Reports.{report_text, reported}
 use Rattle.commands.specs.ReportLaws.{GoodIsFew}
 use Rattle.commands.specs.declared.words.DocumentCommand.{DocumentCommand}
 use Rattle.commands.specs.declared.words.DocumentCommand.TheVariants.{Run, Interleave, Replay, Check, Measure, Renew, Rewind, Rounds, Elect, Tickets}
 use Rattle.commands.specs.declared.status.Status.TheVariants as status
 use Rattle.commands.specs.Commands.{IsDocumentOf}
-use Rattle.commands.specs.Outcomes.{TellsEntries, IsOutcome, of_run, of_tickets, of_interleave, agreeing}
+use Rattle.commands.specs.Outcomes.{IsOutcome}
 use Rattle.commands.specs.Owed.{served}
 use Rattle.commands.specs.ReplayLaws.{IsReplayed, RunTextsAreReplayed, TicketTextsAreReplayed, InterleaveTextsAreReplayed, WhatIsOwedIsReplayed}
 use Rattle.claim_core.proofs.Frames.{IsFramed, framed_first, framed_on}
@@ -40,6 +39,10 @@ use Rattle.commands.proofs.DocumentWorlds.{drawn, may, start_walls}
 use Rattle.commands.proofs.Entries.{IsNumbered, listed_numbered, all_keep_limits}
 use Rattle.commands.proofs.MarkLemmas.{few_callers, marks_writable}
 use Rattle.commands.proofs.Interleaved.{interleaves_are_runs}
+use Rattle.commands.specs.Recorded.{TellsEntries}
+use Rattle.commands.proofs.JournalLemmas.{replay_agrees}
+use Rattle.commands.proofs.Outcomes.{makes_turns}
+use Rattle.commands.specs.declared.status.Status.TheVariants.{Done}
 
 -- what the laws of lower crates say
 pub record Laws : Type 0 where
@@ -147,25 +150,25 @@ module _ (laws : Laws) (bytes : List ℕ) (a : Contents) (p : Program) (start : 
       let has : HasRun a report.journal.entries report.world b = has_run a report.journal.entries report.world (has_old_values a.version) in
       record {
         document = document;
-        agrees = served Replay (bytes ++ text) b status.Done None (agrees_line (length report.journal.entries)) document (agreeing (record {
+        agrees = replay_agrees (bytes ++ text) b (record {
           program = p;
           start = start;
           final = report.world;
           its_program = has.program ∙ its_program;
           its_shape = has.world ∙ its_shape;
           its_final = has.final;
-        }) report.journal.entries (record { told = has.told; agrees = good.run }));
+        }) report.journal.entries document (record { told = has.told; agrees = good.run });
       }
 
 module _ (laws : Laws) where
   pub run_texts_are_replayed : RunTextsAreReplayed
-  run_texts_are_replayed bytes a report text line holds (of_run d r run) = is_replayed laws bytes a d.program d.start d.lists report holds d.its_program d.its_shape d.its_lists run.good text line refl
+  run_texts_are_replayed bytes a report text line holds (reported d r run) = is_replayed laws bytes a d.program d.start d.lists report holds d.its_program d.its_shape d.its_lists run.good text line refl
 
   pub ticket_texts_are_replayed : TicketTextsAreReplayed
-  ticket_texts_are_replayed bytes a report text line holds (of_tickets d r run) = is_replayed laws bytes a d.program d.start d.lists report holds d.its_program d.its_shape d.its_lists run.good text line refl
+  ticket_texts_are_replayed bytes a report text line holds (reported d r run) = is_replayed laws bytes a d.program d.start d.lists report holds d.its_program d.its_shape d.its_lists run.good text line refl
 
   interleave_text_is_replayed : (bytes : List ℕ) (a : Contents) (report : Report) (text : List ℕ) → EndsLine bytes → HasContents form.Run bytes a → IsOutcome a Interleave status.Done (Some report) text → IsReplayed bytes a report text
-  interleave_text_is_replayed bytes a report text line holds (of_interleave d schedule r its_schedule run) = is_replayed laws bytes a d.program d.start d.lists report holds d.its_program d.its_shape d.its_lists run.good text line refl
+  interleave_text_is_replayed bytes a report text line holds (reported d r (schedule, its_schedule, run)) = is_replayed laws bytes a d.program d.start d.lists report holds d.its_program d.its_shape d.its_lists run.good text line refl
 
   pub interleave_texts_are_replayed : InterleaveTextsAreReplayed
   interleave_texts_are_replayed = record { is_run = interleaves_are_runs; replayed = interleave_text_is_replayed }
@@ -173,13 +176,13 @@ module _ (laws : Laws) where
   outcome_is_replayed : (c : DocumentCommand) (bytes : List ℕ) (a : Contents) (report : Report) (text : List ℕ) → EndsLine bytes → IsDocumentOf c bytes a → IsOutcome a c status.Done (Some report) text → IsReplayed bytes a report text
   outcome_is_replayed Run bytes a report text line holds is = run_texts_are_replayed bytes a report text line holds is
   outcome_is_replayed Interleave bytes a report text line holds is = interleave_text_is_replayed bytes a report text line (interleaves_are_runs bytes a holds) is
-  outcome_is_replayed Replay bytes a report text line holds is = elim is [ ]
-  outcome_is_replayed Check bytes a report text line holds is = elim is [ ]
-  outcome_is_replayed Measure bytes a report text line holds is = elim is [ ]
-  outcome_is_replayed Renew bytes a report text line holds is = elim is [ ]
-  outcome_is_replayed (Rewind place) bytes a report text line holds is = elim is [ ]
-  outcome_is_replayed Rounds bytes a report text line holds is = elim is [ ]
-  outcome_is_replayed Elect bytes a report text line holds is = elim is [ ]
+  outcome_is_replayed Replay bytes a report text line holds is = absurd (makes_turns Replay a status.Done report text is)
+  outcome_is_replayed Check bytes a report text line holds is = absurd (makes_turns Check a status.Done report text is)
+  outcome_is_replayed Measure bytes a report text line holds is = absurd (makes_turns Measure a status.Done report text is)
+  outcome_is_replayed Renew bytes a report text line holds is = absurd (makes_turns Renew a status.Done report text is)
+  outcome_is_replayed (Rewind place) bytes a report text line holds is = absurd (makes_turns (Rewind place) a status.Done report text is)
+  outcome_is_replayed Rounds bytes a report text line holds is = absurd (makes_turns Rounds a status.Done report text is)
+  outcome_is_replayed Elect bytes a report text line holds is = absurd (makes_turns Elect a status.Done report text is)
   outcome_is_replayed Tickets bytes a report text line holds is = ticket_texts_are_replayed bytes a report text line holds is
 
   pub what_is_owed_is_replayed : WhatIsOwedIsReplayed

@@ -14,8 +14,7 @@ use Rattle.action_meaning.specs.Verdicts.{verdict_shown}
 use Rattle.run_sample.specs.Laws.{SampleIsFit}
 use Rattle.commands.specs.ReportLaws.{GoodStaysConnected}
 use Rattle.commands.specs.Measure.{yes_or_no}
-use Rattle.commands.specs.Sample.{sample_text}
-use Rattle.commands.specs.OfSample.{IsTextOfSample, six_lines}
+use Rattle.commands.specs.Sample.{sample_text, IsTextOfSample, six_lines}
 use Rattle.commands.specs.Headline.{IsRunOfSample}
 
 -- the lines behind the first

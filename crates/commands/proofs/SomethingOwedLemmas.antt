@@ -1,5 +1,5 @@
 -- Something is owed.
-use Rattle.std.proofs.Common.{◌≡◌, ◌≤◌, ◌*◌, ◌⊎◌, ℕ, Bool, List, [], length, codes, true, Option, Some, None, Result, Ok, Err, inl, inr, refl, ap, sym, subst, arith}
+use Rattle.std.proofs.Common.{◌≡◌, ◌≤◌, ◌*◌, ℕ, Bool, List, [], length, codes, true, Option, Some, None, Result, Ok, Err, inl, inr, refl, ap, sym, subst, arith}
 use Rattle.std.specs.Prelude.{IsSome, IfSome, reverse}
 use Rattle.std.specs.List.{All}
 use Rattle.std.specs.Option.{option_or}
@@ -27,23 +27,22 @@ use Rattle.action_tree.specs.Trees.{Program}
 use Rattle.action_meaning.specs.Laws.{ProgramsDecideByActs}
 use Rattle.action_meaning.specs.Verdicts.{verdict_shown}
 use Rattle.shape_checks.specs.Laws.{MeasuresAreDecided}
-use Rattle.shape_checks.specs.Values.{value_count}
 use Rattle.shape_text.specs.Texts.{shape_text}
 use Rattle.shape_files.specs.declared.section_kind.Form.TheVariants as form
 use Rattle.shape_files.specs.Documents.{Contents, FormSaysFrom}
 use Rattle.shape_files.specs.LeastVersions.{DecidedFromEach, LaterIsDocument, LaterHasOldValues}
 use Rattle.shape_files.specs.Fitting.{DocumentsAreSound, DocumentsFit, Fits, HasJournal, HasJournalBy, HasSections, IsWorldShape, IsSoundDocument}
-use Rattle.election_law.specs.Elections.{IsErosion, IsReadyStart, cand_var, leader_of}
+use Rattle.election_law.specs.Elections.{IsErosion, IsReadyStart}
 use Rattle.election_law.specs.Laws.{ErosionOrNot, ReadyHasNone, ReadyOrUnready}
 use Rattle.run_sample.specs.Laws.{SampleIsFit, SampleIsSome}
 use Rattle.commands.specs.Check.{check_text}
-use Rattle.commands.specs.Elect.{election_text}
+use Rattle.commands.specs.Elect.{no_erosion, not_ready, elected_text, begun}
 use Rattle.commands.specs.ReportLaws.{GoodStaysConnected, ReplayIsDecided}
-use Rattle.commands.specs.Measure.{measure_text}
+use Rattle.commands.specs.Measure.{measure_text, last_shape}
 use Rattle.commands.specs.Renew.{renewed_text}
-use Rattle.commands.specs.Replay.{agrees_line, differs_line}
-use Rattle.commands.specs.Reports.{report_text}
-use Rattle.commands.specs.Rounds.{rounds_text}
+use Rattle.commands.specs.Replay.{agrees_line}
+use Rattle.commands.specs.Reports.{report_text, DocumentLists, reported}
+use Rattle.commands.specs.Rounds.{IsRoundsText}
 use Rattle.commands.specs.Sample.{sample_text}
 use Rattle.commands.specs.declared.words.Command.TheVariants.{Document, Sample}
 use Rattle.commands.specs.declared.words.DocumentCommand.{DocumentCommand}
@@ -52,14 +51,18 @@ use Rattle.commands.specs.declared.status.Status.{Status}
 use Rattle.commands.specs.declared.status.Status.TheVariants as status
 use Rattle.commands.specs.Commands.{form_of, least_for, with_old_values, IsDocumentOf}
 use Rattle.commands.specs.Lines.{read_fault_line, refusal_line, too_long, usage_line, no_such_place, not_erosion, bad_start}
-use Rattle.commands.specs.Outcomes.{DocumentRecord, DocumentLists, JournalAgrees, JournalDiffers, IsOutcome, last_shape, of_run, of_tickets, of_interleave, agreeing, differing, of_check, of_measure, renewing, renew_differing, no_place, unwound, not_unwound, rounded, not_rounded, no_erosion, not_ready, not_elected, elected}
+use Rattle.commands.specs.Outcomes.{IsOutcome}
 use Rattle.commands.specs.Owed.{usage, read_fault, longer, refused, served, shown, sampled}
 use Rattle.commands.specs.Reads.{nothing, whole}
 use Rattle.commands.specs.Laws.{OwedIsSome, SomethingOwed}
 use Rattle.commands.proofs.CommandDocuments.{of_form}
 use Rattle.commands.proofs.OwedTexts.{are_there}
-use Rattle.commands.proofs.RecordedLemmas.{IsJournalIn, in_full_form, in_plain_form}
-use Rattle.shipped_programs.specs.Shipped.{tree_of}
+use Rattle.commands.specs.Recorded.{differs_line, DocumentRecord, agreeing, differing, Agrees, EntriesOutcome, JournalOutcome, in_full, in_plain}
+use Rattle.commands.specs.Rewind.{no_place, unwound, not_unwound}
+use Rattle.commands.specs.Texts.{written}
+use Rattle.commands.specs.Show.{show_text}
+use Rattle.commands.proofs.JournalLemmas.{IsAgreesLine}
+use Rattle.commands.proofs.RoundsLemmas.{rounds_of}
 
 -- what the laws of lower crates say
 pub record Exists : Type 0 where
@@ -131,14 +134,14 @@ module _ (laws : Exists) where
         let g = setup (verdict_shown d.program) d.start d.lists in
         let end = laws.rounds g (runs d) [] in
         let good : Good (verdict_shown d.program) d.start d.lists end.report = laws.goods g (runs d) end.report end.reached in
-        record { status = status.Done; report = Some end.report; text = report_text a.version (length d.program.vars) end.report; is = of_run d end.report (record { good = good; reached = end.reached; serial = λ few. laws.serials (verdict_shown d.program) d.start d.lists end.report few good }) }
+        record { status = status.Done; report = Some end.report; text = report_text a.version (length d.program.vars) end.report; is = reported d end.report (record { good = good; reached = end.reached; serial = λ few. laws.serials (verdict_shown d.program) d.start d.lists end.report few good }) }
 
     tickets_outcome : DocumentLists a → HasOutcome a Tickets
     tickets_outcome d =
         let g = setup (verdict_shown d.program) d.start d.lists in
         let (report, reached) = laws.tickets g (runs d) in
         let good : Good (verdict_shown d.program) d.start d.lists report = laws.fine g (runs d) report reached in
-        record { status = status.Done; report = Some report; text = report_text a.version (length d.program.vars) report; is = of_tickets d report (record { good = good; reached = reached; serial = λ few. laws.serials (verdict_shown d.program) d.start d.lists report few good }) }
+        record { status = status.Done; report = Some report; text = report_text a.version (length d.program.vars) report; is = reported d report (record { good = good; reached = reached; serial = λ few. laws.serials (verdict_shown d.program) d.start d.lists report few good }) }
 
     interleave_outcome : DocumentLists a → IsSome a.schedule → HasOutcome a Interleave
     interleave_outcome d scheduled =
@@ -146,28 +149,42 @@ module _ (laws : Exists) where
         let g = setup (verdict_shown d.program) d.start d.lists in
         let end = laws.rounds g (runs d) (reverse schedule.0) in
         let good : Good (verdict_shown d.program) d.start d.lists end.report = laws.goods g (runs d) end.report end.reached in
-        record { status = status.Done; report = Some end.report; text = report_text a.version (length d.program.vars) end.report; is = of_interleave d schedule.0 end.report schedule.1 (record { good = good; reached = end.reached; scheduled = record { count = end.count; ended = end.ended; first = end.first; left = end.left } }) }
+        record { status = status.Done; report = Some end.report; text = report_text a.version (length d.program.vars) end.report; is = reported d end.report (schedule.0, schedule.1, record { good = good; reached = end.reached; scheduled = record { count = end.count; ended = end.ended; first = end.first; left = end.left } }) }
 
     -- ---- journals and measures
-
-    -- a journal agrees or differs
-    abbrev Ends : DocumentRecord a → Type 0
-    Ends d = ((es : List Entry) × JournalAgrees a d es) ⊎ ((place : ℕ) × JournalDiffers a d place)
 
     leads : (p : Program) → HasPatchedWorld (verdict_shown p)
     leads p b i change by = (laws.decide (verdict_shown p) (laws.acts p) b i change by).leads
 
-    ends_in : {E : Type 0} {form : Entry → E} (d : DocumentRecord a) (told : List E) → IsJournalIn form a d told → ReplayIsDecided form → Ends d
-    ends_in d told is decided = elim (decided.some (verdict_shown d.program) d.start d.final told (leads d.program) (drawn d.start d.its_shape).valid) [
-      | inl by ↦ inl (by.source, record { told = is.tells by.source by.tells; agrees = by.holds })
-      | inr by ↦ inr (by.0, is.differs by.0 by.1)
-    ]
+    -- a journal agrees or differs: that is how a command ends that has a text for each run
+    record Ends (d : DocumentRecord a) (IsText : List Entry → List ℕ → Type 0) : Type 0 where
+      status : Status
+      text : List ℕ
+      is : JournalOutcome a d IsText status None text
 
-    ends : (d : DocumentRecord a) → HasJournal a → Ends d
-    ends d has = elim (cases_Bool (has_old_values a.version)) [
-      | inl is ↦ let es = there_is a.entries (subst (λ (b : Bool). HasJournalBy b a) is has) in ends_in d es.0 (in_full_form a d es.0 es.1) laws.full
-      | inr without ↦ let ps = there_is a.plain (subst (λ (b : Bool). HasJournalBy b a) without has) in ends_in d ps.0 (in_plain_form a d ps.0 ps.1) laws.plain
-    ]
+    module _ (d : DocumentRecord a) (IsText : List Entry → List ℕ → Type 0) (text_of : (es : List Entry) → Agrees (verdict_shown d.program) d.start es d.final → (text : List ℕ) × IsText es text) where
+      record EndsIn {E : Type 0} (form : Entry → E) (told : List E) : Type 0 where
+        status : Status
+        text : List ℕ
+        is : EntriesOutcome form (verdict_shown d.program) d.start told d.final IsText status None text
+
+      ends_in : {E : Type 0} {form : Entry → E} (told : List E) → ReplayIsDecided form → EndsIn form told
+      ends_in told decided = elim (decided.some (verdict_shown d.program) d.start d.final told (leads d.program) (drawn d.start d.its_shape).valid) [
+        | inl by ↦ let text = text_of by.source by.holds in record { status = status.Done; text = text.0; is = agreeing by.source text.0 by.tells by.holds text.1 }
+        | inr by ↦ record { status = status.Differs by.0; text = differs_line by.0; is = differing by.0 by.1 }
+      ]
+
+      ends : HasJournal a → Ends d IsText
+      ends has = elim (cases_Bool (has_old_values a.version)) [
+        | inl is ↦
+            let es = there_is a.entries (subst (λ (b : Bool). HasJournalBy b a) is has) in
+            let by = ends_in es.0 laws.full in
+            record { status = by.status; text = by.text; is = in_full es.0 es.1 by.is }
+        | inr without ↦
+            let ps = there_is a.plain (subst (λ (b : Bool). HasJournalBy b a) without has) in
+            let by = ends_in ps.0 laws.plain in
+            record { status = by.status; text = by.text; is = in_plain ps.0 ps.1 by.is }
+      ]
 
     record_of : HasSections form.Replay a → DocumentRecord a
     record_of has =
@@ -177,16 +194,16 @@ module _ (laws : Exists) where
         record { program = p.0; start = w.0; final = last.0; its_program = p.1; its_shape = w.1; its_final = last.1 }
 
     replay_outcome : HasSections form.Replay a → HasOutcome a Replay
-    replay_outcome has = let d = record_of has in elim (ends d has.2) [
-      | inl by ↦ record { status = status.Done; report = None; text = agrees_line (length by.0); is = agreeing d by.0 by.1 }
-      | inr by ↦ record { status = status.Differs by.0; report = None; text = differs_line by.0; is = differing d by.0 by.1 }
-    ]
+    replay_outcome has =
+        let d = record_of has in
+        let by = ends d IsAgreesLine (λ es run. (agrees_line (length es), refl)) has.2 in
+        record { status = by.status; report = None; text = by.text; is = (d, by.is) }
 
     renew_outcome : HasSections form.Replay a → HasOutcome a Renew
-    renew_outcome has = let d = record_of has in elim (ends d has.2) [
-      | inl by ↦ record { status = status.Done; report = None; text = renewed_text d.program d.start by.0 d.final; is = renewing d by.0 by.1 }
-      | inr by ↦ record { status = status.Differs by.0; report = None; text = differs_line by.0; is = renew_differing d by.0 by.1 }
-    ]
+    renew_outcome has =
+        let d = record_of has in
+        let by = ends d (λ es text. text ≡ renewed_text d.program d.start es d.final) (λ es run. (renewed_text d.program d.start es d.final, refl)) has.2 in
+        record { status = by.status; report = None; text = by.text; is = (d, by.is) }
 
     drawn_last : (last : Config) → a.final_world ≡ Some last → IsWorldShape last
     drawn_last last e = subst (λ (o : Option Config). IfSome o IsWorldShape) e sound.final_world
@@ -203,34 +220,33 @@ module _ (laws : Exists) where
         end = laws.backs (verdict_shown d.program) d.start d.final es place (found d.program) (drawn_last d.final d.its_final).valid within
 
         by : (r : Result Config ℕ) → IsUnwound (verdict_shown d.program) d.start d.final es place r → HasOutcome a (Rewind place)
-        by (Ok world) is = record { status = status.Done; report = None; text = shape_text (codes "shape") (length d.program.vars) world; is = unwound d es place world its within is }
-        by (Err k) is = record { status = status.Differs k; report = None; text = differs_line k; is = not_unwound d es place k its within is }
+        by (Ok world) is = record { status = status.Done; report = None; text = shape_text (codes "shape") (length d.program.vars) world; is = unwound d es world its within is }
+        by (Err k) is = record { status = status.Differs k; report = None; text = differs_line k; is = not_unwound d es k its within is }
 
     rewind_outcome : (place : ℕ) → IsSome a.entries → HasSections form.Replay a → HasOutcome a (Rewind place)
     rewind_outcome place some has =
         let es = there_is a.entries some in
         elim (cases_lt (length es.0) place) [
-          | inl past ↦ record { status = status.Refused no_such_place; report = None; text = refusal_line no_such_place; is = no_place (record_of has) es.0 place es.1 past }
+          | inl past ↦ record { status = status.Refused no_such_place; report = None; text = refusal_line no_such_place; is = no_place (record_of has) es.0 es.1 past }
           | inr within ↦ back_outcome (record_of has) es.0 place es.1 within
         ]
 
     rounds_outcome : HasSections form.Replay a → HasOutcome a Rounds
-    rounds_outcome has = let d = record_of has in elim (ends d has.2) [
-      | inl by ↦
-          let first = drawn d.start d.its_shape in
-          let (rounds, waiting, is) = laws.counts (verdict_shown d.program) d.start d.final by.0 first.valid first.no_gaps by.1.agrees in
-          record { status = status.Done; report = None; text = rounds_text rounds waiting; is = rounded d by.0 rounds waiting by.1 is }
-      | inr by ↦ record { status = status.Differs by.0; report = None; text = differs_line by.0; is = not_rounded d by.0 by.1 }
-    ]
+    rounds_outcome has =
+        let d = record_of has in
+        let first = drawn d.start d.its_shape in
+        let by = ends d (IsRoundsText (verdict_shown d.program) d.start) (λ es run. rounds_of laws.counts d es first run) has.2 in
+        record { status = by.status; report = None; text = by.text; is = (d, by.is) }
 
-    election_outcome : (d : DocumentRecord a) → IsErosion d.program → IsReadyStart d.start → Ends d → HasOutcome a Elect
-    election_outcome d is ready (inl by) = record { status = status.Done; report = None; text = election_text (value_count d.final cand_var 1) (leader_of d.final); is = elected d by.0 is ready by.1 }
-    election_outcome d is ready (inr by) = record { status = status.Differs by.0; report = None; text = differs_line by.0; is = not_elected d by.0 is ready by.1 }
+    election_outcome : (d : DocumentRecord a) → IsErosion d.program → IsReadyStart d.start → HasJournal a → HasOutcome a Elect
+    election_outcome d is ready has =
+        let by = ends d (λ es text. text ≡ elected_text d.final) (λ es run. (elected_text d.final, refl)) has in
+        record { status = by.status; report = None; text = by.text; is = begun d by.status None by.text is ready by.is }
 
     elect_outcome : HasSections form.Replay a → HasOutcome a Elect
     elect_outcome has = let d = record_of has in elim (laws.erosions d.program) [
       | inl is ↦ elim (laws.starts d.start (drawn d.start d.its_shape).valid) [
-        | inl ready ↦ election_outcome d is ready (ends d has.2)
+        | inl ready ↦ election_outcome d is ready has.2
         | inr by ↦ record { status = status.Refused bad_start; report = None; text = refusal_line bad_start; is = not_ready d is (λ ready. laws.ready d.start by.0 ready by.1) }
       ]
       | inr other ↦ record { status = status.Refused not_erosion; report = None; text = refusal_line not_erosion; is = no_erosion d other }
@@ -240,7 +256,7 @@ module _ (laws : Exists) where
     measured last e valid =
         let by = laws.measures last valid in
         let text = measure_text (length last.bots) by.0.0 by.1.0 in
-        record { status = status.Done; report = None; text = text; is = of_measure last text e (record { connected = by.0.0; hexagon = by.1.0; is_connected = by.0.1; is_hexagon = by.1.1; whole = refl }) }
+        record { status = status.Done; report = None; text = text; is = written text (last, e, record { connected = by.0.0; hexagon = by.1.0; is_connected = by.0.1; is_hexagon = by.1.1; whole = refl }) }
 
     measure_outcome : IsSome a.world → HasOutcome a Measure
     measure_outcome some = by a.final_world refl
@@ -253,7 +269,7 @@ module _ (laws : Exists) where
   outcome Run bytes a h = let has = (fits bytes a Run h).sections in run_outcome bytes a Run h (lists_of bytes a Run h has.0 has.1 has.2)
   outcome Interleave bytes a h = let has = (fits bytes a Interleave h).sections in interleave_outcome bytes a Interleave h (lists_of bytes a Interleave h has.0 has.1 has.2) has.3
   outcome Replay bytes a h = replay_outcome bytes a Replay h (fits bytes a Replay h).sections
-  outcome Check bytes a h = let p = there_is a.checked (fits bytes a Check h).sections.0 in record { status = status.Done; report = None; text = check_text a.version p.0; is = of_check p.0 p.1 }
+  outcome Check bytes a h = let p = there_is a.checked (fits bytes a Check h).sections.0 in record { status = status.Done; report = None; text = check_text a.version p.0; is = written (check_text a.version p.0) (p.0, p.1, refl) }
   outcome Measure bytes a h = measure_outcome bytes a Measure h (fits bytes a Measure h).sections.1
   outcome Renew bytes a h = renew_outcome bytes a Renew h (fits bytes a Renew h).sections
   outcome (Rewind place) bytes a h = rewind_outcome bytes a (Rewind place) h place (laws.values with_old_values bytes a refl h) (fits bytes a (Rewind place) h).sections
@@ -300,7 +316,7 @@ module _ (laws : Exists) where
     whole_input = for_whole;
     long_input = λ c got. record { status = status.Refused too_long; report = None; text = refusal_line too_long; owed = longer c got };
     failed_input = λ c got. record { status = status.ReadFault; report = None; text = read_fault_line; owed = read_fault c got };
-    show = λ program. record { status = status.Done; report = None; text = check_text 1 (tree_of program); owed = shown program };
+    show = λ program. record { status = status.Done; report = None; text = show_text program; owed = shown program };
     sample = for_sample;
     no_command = record { status = status.Words; report = None; text = usage_line; owed = usage };
   }

@@ -9,7 +9,7 @@ use Rattle.shape_files.specs.Documents.{Contents}
 use Rattle.shape_files.specs.LeastVersions.{DecidedFromEach}
 use Rattle.run_sample.specs.Laws.{SampleIsUnique}
 use Rattle.commands.specs.ReportLaws.{SampleTextIsOne}
-use Rattle.commands.specs.Replay.{differs_line}
+use Rattle.commands.specs.Recorded.{differs_line, agreeing, differing, DocumentRecord, EntriesOutcome, JournalOutcome, in_full, in_plain}
 use Rattle.commands.specs.declared.words.Command.{Command}
 use Rattle.commands.specs.declared.words.Command.TheVariants.{Document}
 use Rattle.commands.specs.declared.words.DocumentCommand.{DocumentCommand}
@@ -27,11 +27,19 @@ use Rattle.commands.specs.Commands.{HaveWorkers, NeedsWorkers, maker_of}
 use Rattle.commands.specs.Lines.{usage_line, read_fault_line, refusal_line}
 use Rattle.commands.specs.Reads.{Read, whole}
 use Rattle.commands.specs.Owed.{IsOwed, usage, read_fault, longer, refused, served, shown, sampled}
-use Rattle.commands.specs.Outcomes.{IsOutcome, of_run, of_tickets, of_interleave, agreeing, differing, of_check, of_measure, renewing, renew_differing, no_place, unwound, not_unwound, rounded, not_rounded, no_erosion, not_ready, not_elected, elected}
+use Rattle.commands.specs.Outcomes.{IsOutcome}
 use Rattle.commands.specs.Answers.{IsRunFor, IsTaskOf, Tells, of_document, of_number, turn_maker}
 use Rattle.commands.specs.Laws.{SameIfAny, SameTask, OwedIsOne, PreparedIsOne, TaskIsOne, TellingIsOne}
 use Rattle.commands.proofs.Outcomes.{documents_have_outcomes, worked_is_done}
 use Rattle.commands.proofs.OwedLemmas.{same_contents}
+use Rattle.commands.specs.Rewind.{no_place, unwound, not_unwound}
+use Rattle.commands.specs.Elect.{no_erosion, not_ready, begun}
+use Rattle.commands.specs.Reports.{reported}
+use Rattle.commands.specs.Texts.{written}
+use Rattle.amoebot_state.specs.declared.verdict.Entry.{Entry}
+use Rattle.amoebot_state.specs.declared.verdict.Verdict.{Verdict}
+use Rattle.amoebot_state.specs.Configs.{Config}
+use Rattle.amoebot_state.specs.Zones.{Shown}
 
 -- the line that comes with a status other than Done
 abbrev line_of : Status → List ℕ
@@ -44,32 +52,40 @@ line_of status.NoMemory = []
 line_of (status.Differs place) = differs_line place
 
 -- and no report comes with it
-unserved : (a : Contents) (c : DocumentCommand) (s : Status) (report : Option Report) (text : List ℕ) → IsOutcome a c s report text → s ≢ status.Done → (report ≡ None) × (text ≡ line_of s)
-unserved a c s report text (of_run d r run) other = absurd (other refl)
-unserved a c s report text (of_tickets d r run) other = absurd (other refl)
-unserved a c s report text (of_interleave d schedule r its_schedule run) other = absurd (other refl)
-unserved a c s report text (agreeing d es agrees) other = absurd (other refl)
-unserved a c s report text (differing d place differs) other = (refl, refl)
-unserved a c s report text (of_check p its_program) other = absurd (other refl)
-unserved a c s report text (of_measure last t its_last measures) other = absurd (other refl)
-unserved a c s report text (renewing d es agrees) other = absurd (other refl)
-unserved a c s report text (renew_differing d place differs) other = (refl, refl)
-unserved a c s report text (no_place d es place its_journal above) other = (refl, refl)
-unserved a c s report text (unwound d es place world its_journal within is) other = absurd (other refl)
-unserved a c s report text (not_unwound d es place k its_journal within is) other = (refl, refl)
-unserved a c s report text (rounded d es rounds waiting agrees is) other = absurd (other refl)
-unserved a c s report text (not_rounded d place differs) other = (refl, refl)
-unserved a c s report text (no_erosion d another) other = (refl, refl)
-unserved a c s report text (not_ready d is another) other = (refl, refl)
-unserved a c s report text (not_elected d place is ready differs) other = (refl, refl)
-unserved a c s report text (elected d es is ready agrees) other = absurd (other refl)
+abbrev IsLine : Status → Option Report → List ℕ → Type 0
+IsLine s report text = s ≢ status.Done → (report ≡ None) × (text ≡ line_of s)
+
+line_of_entries : {E : Type 0} {form : Entry → E} {f : Shown → Verdict} {start : Config} {told : List E} {final : Config} {IsText : List Entry → List ℕ → Type 0} (s : Status) (report : Option Report) (text : List ℕ)
+    → EntriesOutcome form f start told final IsText s report text → IsLine s report text
+line_of_entries s report text (agreeing es u tells run is) other = absurd (other refl)
+line_of_entries s report text (differing place differs) other = (refl, refl)
+
+line_of_journal : {a : Contents} {d : DocumentRecord a} {IsText : List Entry → List ℕ → Type 0} (s : Status) (report : Option Report) (text : List ℕ) → JournalOutcome a d IsText s report text → IsLine s report text
+line_of_journal s report text (in_full es its is) = line_of_entries s report text is
+line_of_journal s report text (in_plain ps its is) = line_of_entries s report text is
+
+unserved : (c : DocumentCommand) (a : Contents) (s : Status) (report : Option Report) (text : List ℕ) → IsOutcome a c s report text → IsLine s report text
+unserved Run a s report text (reported d r run) other = absurd (other refl)
+unserved Tickets a s report text (reported d r run) other = absurd (other refl)
+unserved Interleave a s report text (reported d r run) other = absurd (other refl)
+unserved Replay a s report text (d, x) other = line_of_journal s report text x other
+unserved Check a s report text (written u is) other = absurd (other refl)
+unserved Measure a s report text (written u is) other = absurd (other refl)
+unserved Renew a s report text (d, x) other = line_of_journal s report text x other
+unserved (Rewind place) a s report text (no_place d es its above) other = (refl, refl)
+unserved (Rewind place) a s report text (unwound d es world its within is) other = absurd (other refl)
+unserved (Rewind place) a s report text (not_unwound d es k its within is) other = (refl, refl)
+unserved Rounds a s report text (d, x) other = line_of_journal s report text x other
+unserved Elect a s report text (no_erosion d another) other = (refl, refl)
+unserved Elect a s report text (not_ready d is another) other = (refl, refl)
+unserved Elect a s report text (begun d t told u is ready x) other = line_of_journal s report text x other
 
 untold : (c : Option Command) (read : Read) (s : Status) (report : Option Report) (text : List ℕ) → IsOwed c read s report text → s ≢ status.Done → (report ≡ None) × (text ≡ line_of s)
 untold c read s report text usage other = (refl, refl)
 untold c read s report text (read_fault d got) other = (refl, refl)
 untold c read s report text (longer d got) other = (refl, refl)
 untold c read s report text (refused d bytes r x) other = (refl, refl)
-untold c read s report text (served d bytes a t told v x is) other = unserved a d s report text is other
+untold c read s report text (served d bytes a t told v x is) other = unserved d a s report text is other
 untold c read s report text (shown p) other = absurd (other refl)
 untold c read s report text (sampled seed told v x) other = absurd (other refl)
 
@@ -90,22 +106,28 @@ module _ (documents : DecidedFromEach) (owed : OwedIsOne) where
       let same = (owed (Some (Document c)) (whole bytes) one.status two.status one.report two.report one.text two.text x.0 y.0).status in
       (same, subst (λ (z : Option Report × Option Report). SameIfAny z.0 z.1) (λ i. (sym first.0 i, sym second.0 i)) tt, first.1 ∙ ap line_of same ∙ sym second.1)
 
+  -- what is answered of another command is one
+  answered_once : (c : DocumentCommand) (bytes : List ℕ) (one two : Answer) → (NeedsWorkers (Some (Document c)) → ⊥) → IsTaskOf c bytes (task.Answered one) → IsTaskOf c bytes (task.Answered two) → SameTask (task.Answered one) (task.Answered two)
+  answered_once c bytes one two free x y =
+      let same = owed (Some (Document c)) (whole bytes) one.status two.status one.report two.report one.text two.text x.0 y.0 in
+      (same.status, same.report (λ needs. absurd (free needs)), same.text (λ needs. absurd (free needs)))
+
   both_answered : (c : DocumentCommand) (bytes : List ℕ) (one two : Answer) → IsTaskOf c bytes (task.Answered one) → IsTaskOf c bytes (task.Answered two) → SameTask (task.Answered one) (task.Answered two)
   both_answered Run bytes one two x y = none_done Run bytes one two tt x y
-  both_answered Interleave bytes one two x y = let same = owed (Some (Document Interleave)) (whole bytes) one.status two.status one.report two.report one.text two.text x.0 y.0 in (same.status, same.report tt, same.text tt)
-  both_answered Replay bytes one two x y = let same = owed (Some (Document Replay)) (whole bytes) one.status two.status one.report two.report one.text two.text x.0 y.0 in (same.status, same.report tt, same.text tt)
-  both_answered Check bytes one two x y = let same = owed (Some (Document Check)) (whole bytes) one.status two.status one.report two.report one.text two.text x.0 y.0 in (same.status, same.report tt, same.text tt)
-  both_answered Measure bytes one two x y = let same = owed (Some (Document Measure)) (whole bytes) one.status two.status one.report two.report one.text two.text x.0 y.0 in (same.status, same.report tt, same.text tt)
-  both_answered Renew bytes one two x y = let same = owed (Some (Document Renew)) (whole bytes) one.status two.status one.report two.report one.text two.text x.0 y.0 in (same.status, same.report tt, same.text tt)
-  both_answered (Rewind place) bytes one two x y = let same = owed (Some (Document (Rewind place))) (whole bytes) one.status two.status one.report two.report one.text two.text x.0 y.0 in (same.status, same.report tt, same.text tt)
-  both_answered Rounds bytes one two x y = let same = owed (Some (Document Rounds)) (whole bytes) one.status two.status one.report two.report one.text two.text x.0 y.0 in (same.status, same.report tt, same.text tt)
-  both_answered Elect bytes one two x y = let same = owed (Some (Document Elect)) (whole bytes) one.status two.status one.report two.report one.text two.text x.0 y.0 in (same.status, same.report tt, same.text tt)
+  both_answered Interleave bytes one two x y = answered_once Interleave bytes one two (λ needs. needs) x y
+  both_answered Replay bytes one two x y = answered_once Replay bytes one two (λ needs. needs) x y
+  both_answered Check bytes one two x y = answered_once Check bytes one two (λ needs. needs) x y
+  both_answered Measure bytes one two x y = answered_once Measure bytes one two (λ needs. needs) x y
+  both_answered Renew bytes one two x y = answered_once Renew bytes one two (λ needs. needs) x y
+  both_answered (Rewind place) bytes one two x y = answered_once (Rewind place) bytes one two (λ needs. needs) x y
+  both_answered Rounds bytes one two x y = answered_once Rounds bytes one two (λ needs. needs) x y
+  both_answered Elect bytes one two x y = answered_once Elect bytes one two (λ needs. needs) x y
   both_answered Tickets bytes one two x y = none_done Tickets bytes one two tt x y
 
   -- for a document whose lists workers are to run nothing but Done is an outcome
   not_answered : (c : DocumentCommand) (bytes : List ℕ) (answer : Answer) (run : Prepared) → IsTaskOf c bytes (task.Answered answer) → NeedsWorkers (Some (Document c)) → IsRunFor run (Some (Document c)) (whole bytes) → ⊥
   not_answered c bytes answer run x worked (of_document d same a h its_program its_shape its_lists its_telling its_maker) =
-      x.1 worked (worked_is_done a c answer.status answer.report answer.text worked (documents_have_outcomes documents c bytes a answer.status answer.report answer.text h x.0))
+      x.1 worked (worked_is_done c a answer.status answer.report answer.text worked (documents_have_outcomes documents c bytes a answer.status answer.report answer.text h x.0))
 
   both_run : (c : DocumentCommand) (bytes : List ℕ) (one two : Prepared) → IsRunFor one (Some (Document c)) (whole bytes) → IsRunFor two (Some (Document c)) (whole bytes) → one ≡ two
   both_run c bytes one two (of_document d same a h its_program its_shape its_lists its_telling its_maker) (of_document e equal b k other_program other_shape other_lists other_telling other_maker) =

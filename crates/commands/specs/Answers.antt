@@ -1,11 +1,9 @@
 -- What the code answers, and what it prepares for workers.
-use Rattle.std.specs.Prelude.{◌≡◌, ◌≢◌, ℕ, List, length, codes, IsSome, ⊤}
+use Rattle.std.specs.Prelude.{◌≡◌, ◌≢◌, ℕ, List, length, IsSome, ⊤}
 use Rattle.std.specs.List.{All}
 use Rattle.std.specs.declared.option.Option.{Option}
 use Rattle.std.specs.declared.option.Option.TheVariants.{Some, None}
-use Rattle.text_tokens.specs.declared.refusal.Refusal.{Refusal}
-use Rattle.amoebot_state.specs.declared.verdict.Entry.{Entry}
-use Rattle.amoebot_state.specs.Configs.{Config, bot_at}
+use Rattle.amoebot_state.specs.Configs.{bot_at}
 use Rattle.serial_model.specs.Replays.{AreCountable}
 use Rattle.claim_core.specs.declared.report.Report.{Report}
 use Rattle.claim_core.specs.Turns.{CallerLists}
@@ -17,12 +15,7 @@ use Rattle.action_tree.specs.Trees.{Program}
 use Rattle.action_meaning.specs.Verdicts.{verdict_shown}
 use Rattle.shape_files.specs.Documents.{Contents}
 use Rattle.run_sample.specs.Whole.{IsSample}
-use Rattle.shape_text.specs.Texts.{shape_text}
-use Rattle.commands.specs.Elect.{election_text}
-use Rattle.commands.specs.Renew.{renewed_text}
-use Rattle.commands.specs.Replay.{agrees_line, differs_line}
 use Rattle.commands.specs.Reports.{report_text}
-use Rattle.commands.specs.Rounds.{rounds_text}
 use Rattle.commands.specs.Sample.{IsSampleText}
 use Rattle.commands.specs.declared.words.Command.{Command}
 use Rattle.commands.specs.declared.words.Command.TheVariants.{Document, Sample}
@@ -38,48 +31,23 @@ use Rattle.commands.specs.declared.answer.Telling.{Telling}
 use Rattle.commands.specs.declared.answer.Telling.TheVariants as telling
 use Rattle.commands.specs.declared.status.Status.TheVariants as status
 use Rattle.commands.specs.Commands.{IsDocumentOf, NeedsWorkers, TurnMaker, maker_of, the_tickets, the_workers}
-use Rattle.commands.specs.Lines.{refusal_line}
 use Rattle.commands.specs.Reads.{Read, nothing, whole}
 use Rattle.commands.specs.Owed.{IsOwed}
+use Rattle.commands.specs.declared.status.Status.{Status}
 
 -- ---- answers
 
--- it is what the command owes for each whole input that is a document with these contents
-abbrev pub IsAnswerTo : DocumentCommand → Contents → Answer → Type 0
-IsAnswerTo c a answer = (bytes : List ℕ) → IsDocumentOf c bytes a
-    → IsOwed (Some (Document c)) (whole bytes) answer.status answer.report answer.text
+-- an answer is as a command may end
+abbrev pub IsAnswerOf : (Status → Option Report → List ℕ → Type 0) → Answer → Type 0
+IsAnswerOf Outcome answer = Outcome answer.status answer.report answer.text
 
--- the line of a refusal
-abbrev pub refused_with : Refusal → Answer
-refused_with r = record { status = status.Refused r; report = None; text = refusal_line r }
+-- the answer of a status and a text alone
+abbrev pub with_text : Status → List ℕ → Answer
+with_text s text = record { status = s; report = None; text = text }
 
--- the text of a report in a version, where an amoebot has the values of so many variables
-abbrev pub done_with : ℕ → ℕ → Report → Answer
-done_with version vars report = record { status = status.Done; report = Some report; text = report_text version vars report }
-
--- the line of a journal that agrees, of so many entries
-abbrev pub agrees_with : ℕ → Answer
-agrees_with count = record { status = status.Done; report = None; text = agrees_line count }
-
--- and of one that differs at a place
-abbrev pub differs_with : ℕ → Answer
-differs_with place = record { status = status.Differs place; report = None; text = differs_line place }
-
--- the section of a shape, where an amoebot has the values of so many variables
-abbrev pub unwound_with : ℕ → Config → Answer
-unwound_with vars world = record { status = status.Done; report = None; text = shape_text (codes "shape") vars world }
-
--- the lines of so many rounds that have ended, and of so many amoebots that wait
-abbrev pub rounded_with : ℕ → ℕ → Answer
-rounded_with rounds waiting = record { status = status.Done; report = None; text = rounds_text rounds waiting }
-
--- the lines of so many candidates, and of the leader, if there is one
-abbrev pub elected_with : ℕ → Option ℕ → Answer
-elected_with candidates leader = record { status = status.Done; report = None; text = election_text candidates leader }
-
--- the document that has a journal anew
-abbrev pub renewed_with : Program → Config → List Entry → Config → Answer
-renewed_with p start es last = record { status = status.Done; report = None; text = renewed_text p start es last }
+-- the answer of a report, with its text in a version, where an amoebot has the values of so many variables
+abbrev pub with_report : ℕ → ℕ → Report → Answer
+with_report version vars report = record { status = status.Done; report = Some report; text = report_text version vars report }
 
 -- ---- runs that workers make
 

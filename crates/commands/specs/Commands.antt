@@ -1,5 +1,5 @@
 -- The table of the commands, the documents of a command, and the numbers of the statuses.
-use Rattle.std.specs.Prelude.{ℕ, List, ⊤}
+use Rattle.std.specs.Prelude.{ℕ, List, Bool, true, false, codes, ⊤}
 use Rattle.std.specs.declared.option.Option.{Option}
 use Rattle.std.specs.declared.option.Option.TheVariants.{Some, None}
 use Rattle.shape_files.specs.declared.section_kind.Form.{Form}
@@ -25,14 +25,19 @@ pub data TurnMaker : Type 0 where
   -- a worker for each list, whose commits draw their places
   the_tickets : TurnMaker
 
--- what the table says of a command that reads a document
+-- a row of the table, of a command that reads a document
 pub record CommandRow : Type 0 where
+  -- its first word
+  pub word : List ℕ
+  -- whether that is its only word
+  pub alone : Bool
   -- the form of its document
   pub form : Form
   -- the least version of its document
   pub least : ℕ
   -- the most bytes that its document may have
   pub limit : ℕ
+  -- who makes turns for it
   pub maker : TurnMaker
 
 -- a mebibyte, and 128 of them for a document that may have a journal
@@ -46,18 +51,24 @@ many_mebibytes = 134217728
 abbrev pub with_old_values : ℕ
 with_old_values = 3
 
+-- a row of a command of one word, whose document may be of each version
+abbrev one_word_row : List ℕ → Form → ℕ → TurnMaker → CommandRow
+one_word_row word form limit maker =
+    record { word = word; alone = true; form = form; least = least_version; limit = limit; maker = maker }
+
 -- the table
 abbrev pub row_of : DocumentCommand → CommandRow
-row_of Run = record { form = form.Run; least = least_version; limit = mebibyte; maker = the_workers }
-row_of Interleave = record { form = form.Interleave; least = least_version; limit = mebibyte; maker = the_schedule }
-row_of Replay = record { form = form.Replay; least = least_version; limit = many_mebibytes; maker = no_maker }
-row_of Check = record { form = form.Check; least = least_version; limit = mebibyte; maker = no_maker }
-row_of Measure = record { form = form.Measure; least = least_version; limit = many_mebibytes; maker = no_maker }
-row_of Renew = record { form = form.Replay; least = least_version; limit = many_mebibytes; maker = no_maker }
-row_of (Rewind place) = record { form = form.Replay; least = with_old_values; limit = many_mebibytes; maker = no_maker }
-row_of Rounds = record { form = form.Replay; least = least_version; limit = many_mebibytes; maker = no_maker }
-row_of Elect = record { form = form.Replay; least = least_version; limit = many_mebibytes; maker = no_maker }
-row_of Tickets = record { form = form.Run; least = least_version; limit = mebibyte; maker = the_tickets }
+row_of Run = one_word_row (codes "run") form.Run mebibyte the_workers
+row_of Interleave = one_word_row (codes "interleave") form.Interleave mebibyte the_schedule
+row_of Replay = one_word_row (codes "replay") form.Replay many_mebibytes no_maker
+row_of Check = one_word_row (codes "check") form.Check mebibyte no_maker
+row_of Measure = one_word_row (codes "measure") form.Measure many_mebibytes no_maker
+row_of Renew = one_word_row (codes "renew") form.Replay many_mebibytes no_maker
+row_of (Rewind place) =
+    record (one_word_row (codes "rewind") form.Replay many_mebibytes no_maker) { alone = false; least = with_old_values }
+row_of Rounds = one_word_row (codes "rounds") form.Replay many_mebibytes no_maker
+row_of Elect = one_word_row (codes "elect") form.Replay many_mebibytes no_maker
+row_of Tickets = one_word_row (codes "tickets") form.Run mebibyte the_tickets
 
 -- the form of a command's document
 abbrev pub form_of : DocumentCommand → Form

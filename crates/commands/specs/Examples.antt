@@ -21,13 +21,13 @@ use Rattle.small_worlds.specs.Rows.{row_frame, node, bot_in_row, to_the_right}
 use Rattle.commands.specs.WorkExamples.{nobody, one_alone}
 use Rattle.commands.specs.declared.status.Status.TheVariants as status
 use Rattle.commands.specs.Words.{command_of}
-use Rattle.commands.specs.Lines.{usage_line, too_long}
+use Rattle.commands.specs.Lines.{usage_line, too_long, refusal_line}
 use Rattle.commands.specs.Reads.{nothing, whole, above, up_to_fault}
 use Rattle.commands.specs.Owed.{IsOwed}
 use Rattle.commands.specs.declared.answer.Task.TheVariants as task
 use Rattle.commands.specs.declared.answer.Maker.TheVariants as maker
 use Rattle.commands.specs.declared.answer.Telling.TheVariants as telling
-use Rattle.commands.specs.Answers.{IsTaskOf, refused_with}
+use Rattle.commands.specs.Answers.{IsTaskOf, with_text}
 use Rattle.commands.specs.declared.words.DocumentCommand.TheVariants.{Run, Interleave, Tickets}
 
 -- ---- texts
@@ -179,7 +179,7 @@ pub record SmallAnswers : Type 0 where
       status.Done None (codes "bots 0\nconnected yes\nhexagon no\n")
   pub show : IsOwed (command_of (codes "show" ∷ codes "line" ∷ [])) nothing status.Done None shown_line
   -- what is to be done for an input that is refused at once, and for a document of `run` and of `tickets`
-  pub refused_task : IsTaskOf Interleave [] (task.Answered (refused_with empty_refused))
+  pub refused_task : IsTaskOf Interleave [] (task.Answered (with_text (status.Refused empty_refused) (refusal_line empty_refused)))
   pub run_task : IsTaskOf Run with_list
       (task.Run (record { runner = out; world = one_alone; lists = one_list; telling = telling.Report 1; maker = maker.Workers }))
   pub tickets_task : IsTaskOf Tickets with_list

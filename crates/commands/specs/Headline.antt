@@ -19,7 +19,7 @@ use Rattle.commands.specs.Reports.{report_text}
 use Rattle.commands.specs.Run.{IsRunReport}
 use Rattle.commands.specs.declared.words.DocumentCommand.{DocumentCommand}
 use Rattle.commands.specs.Commands.{IsDocumentOf}
-use Rattle.commands.specs.OfSample.{six_lines}
+use Rattle.commands.specs.Sample.{six_lines}
 
 -- The bytes are a document of the command, which has a program, a shape and lists.
 -- The report is a good one of the lists' turns under the program, from the shape on, and an interleaving gives it.

@@ -1,6 +1,8 @@
 -- The command `interleave`: the callers of the schedule make their steps, one after another; then each caller makes one step in rising
 -- number, round after round, until all have ended.
-use Rattle.std.specs.Prelude.{◌<◌, ℕ, List, reverse}
+use Rattle.std.specs.Prelude.{◌≡◌, ◌<◌, ℕ, List, reverse}
+use Rattle.std.specs.declared.option.Option.{Option}
+use Rattle.std.specs.declared.option.Option.TheVariants.{Some}
 use Rattle.amoebot_state.specs.declared.verdict.Verdict.{Verdict}
 use Rattle.amoebot_state.specs.Configs.{Config}
 use Rattle.amoebot_state.specs.Zones.{Shown}
@@ -10,6 +12,10 @@ use Rattle.claim_core.specs.Good.{Good}
 use Rattle.claim_core.specs.Machine.{Setup, State, after, setup}
 use Rattle.claim_core.specs.Reached.{HaveEnded, IsReportOf, Reached}
 use Rattle.claim_core.specs.StepRounds.{step_rounds}
+use Rattle.action_meaning.specs.Verdicts.{verdict_shown}
+use Rattle.shape_files.specs.Documents.{Contents}
+use Rattle.commands.specs.declared.status.Status.{Status}
+use Rattle.commands.specs.Reports.{DocumentLists, ReportOutcome}
 
 -- the state after the steps of the schedule and so many rounds
 abbrev pub at_round : Setup → List ℕ → ℕ → State
@@ -28,3 +34,10 @@ pub record IsInterleaveReport (f : Shown → Verdict) (start : Config) (lists : 
   pub good : Good f start lists report
   pub reached : Reached (setup f start lists) report
   pub scheduled : IsScheduled (setup f start lists) schedule report
+
+-- the report is that of the document's lists and its schedule
+abbrev pub InterleaveOutcome : Contents → Status → Option Report → List ℕ → Type 0
+InterleaveOutcome a =
+    ReportOutcome a (λ (d : DocumentLists a) (report : Report). (schedule : List ℕ)
+    × (a.schedule ≡ Some schedule)
+    × IsInterleaveReport (verdict_shown d.program) d.start d.lists schedule report)

@@ -5,14 +5,12 @@ use Rattle.std.specs.declared.option.Option.TheVariants.{Some, None}
 use Rattle.claim_core.specs.declared.report.Report.{Report}
 use Rattle.claim_core.specs.Turns.{CallerLists}
 use Rattle.action_tree.specs.Trees.{Program}
-use Rattle.shape_files.specs.declared.section_kind.Form.TheVariants as form
 use Rattle.shipped_programs.specs.declared.shipped.Shipped.{Shipped}
-use Rattle.shape_files.specs.Documents.{Contents, HasContents}
+use Rattle.shape_files.specs.Documents.{Contents}
 use Rattle.commands.specs.ReportLaws.{SameReport}
 use Rattle.commands.specs.declared.words.Command.{Command}
 use Rattle.commands.specs.declared.words.Command.TheVariants.{Document, Show, Sample}
 use Rattle.commands.specs.declared.words.DocumentCommand.{DocumentCommand}
-use Rattle.commands.specs.declared.words.DocumentCommand.TheVariants.{Run, Tickets}
 use Rattle.commands.specs.declared.answer.Answer.{Answer}
 use Rattle.commands.specs.declared.answer.Prepared.{Prepared}
 use Rattle.commands.specs.declared.answer.Task.{Task}
@@ -20,7 +18,7 @@ use Rattle.commands.specs.declared.answer.Task.TheVariants as task
 use Rattle.commands.specs.declared.answer.Telling.{Telling}
 use Rattle.commands.specs.declared.status.Status.{Status}
 use Rattle.commands.specs.declared.status.Status.TheVariants as status
-use Rattle.commands.specs.Commands.{IsDocumentOf, MakesTurns}
+use Rattle.commands.specs.Commands.{IsDocumentOf, MakesTurns, NeedsWorkers}
 use Rattle.commands.specs.Reads.{Read, nothing, whole, above, up_to_fault}
 use Rattle.commands.specs.Owed.{IsOwed}
 use Rattle.commands.specs.Answers.{IsRunFor, IsTaskOf, TellsReport}
@@ -37,17 +35,15 @@ SameIfAny (Some one) (Some two) = SameReport one two
 -- At most one report may be told, except for `run` and `tickets` of a document with two lists or more, and for `sample`.
 -- There it is that of any interleaving.
 abbrev pub HasOneReport : Option Command → Read → Type 0
-HasOneReport (Some (Document Run)) (whole bytes) =
-    (a : Contents) → HasContents form.Run bytes a → IfSome a.lists (λ lists. length lists.ids ≤ 1)
-HasOneReport (Some (Document Tickets)) (whole bytes) =
-    (a : Contents) → HasContents form.Run bytes a → IfSome a.lists (λ lists. length lists.ids ≤ 1)
+HasOneReport (Some (Document c)) (whole bytes) =
+    NeedsWorkers (Some (Document c))
+    → (a : Contents) → IsDocumentOf c bytes a → IfSome a.lists (λ lists. length lists.ids ≤ 1)
 HasOneReport (Some (Sample seed)) read = ⊥
 HasOneReport c read = ⊤
 
 -- and at most one text: so for `sample` too
 abbrev pub HasOneText : Option Command → Read → Type 0
-HasOneText (Some (Document Run)) (whole bytes) = HasOneReport (Some (Document Run)) (whole bytes)
-HasOneText (Some (Document Tickets)) (whole bytes) = HasOneReport (Some (Document Tickets)) (whole bytes)
+HasOneText (Some (Document c)) read = HasOneReport (Some (Document c)) read
 HasOneText c read = ⊤
 
 -- for a command and what the input came to, one status is owed at most: so Done, Refused and Differs exclude each other; and where that

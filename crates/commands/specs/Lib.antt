@@ -15,9 +15,13 @@ pub mod Lines
 pub mod Reads
 pub mod Outcomes
 pub mod Owed
-pub mod OfSample
+pub mod Texts
+pub mod Show
+pub mod Rewind
+pub mod Tickets
+pub mod Recorded
 pub mod Headline
-pub mod Told
+pub mod Journals
 pub mod Answers
 pub mod WordLaws
 pub mod ReportLaws
@@ -37,5 +41,4 @@ pub use Rattle.claim_core.specs.Good
 pub use Rattle.claim_core.specs.Machine
 pub use Rattle.claim_core.specs.Turns
 pub use Rattle.serial_model.specs.Replays
-pub use Rattle.text_tokens.specs.Lines
 pub use Rattle.text_tokens.specs.Text

@@ -6,8 +6,6 @@ use Rattle.text_tokens.specs.declared.refusal.Refusal.{Refusal}
 use Rattle.claim_core.specs.declared.report.Report.{Report}
 use Rattle.shape_files.specs.Documents.{Contents}
 use Rattle.shipped_programs.specs.declared.shipped.Shipped.{Shipped}
-use Rattle.shipped_programs.specs.Shipped.{tree_of}
-use Rattle.commands.specs.Check.{check_text}
 use Rattle.commands.specs.declared.words.Command.{Command}
 use Rattle.commands.specs.declared.words.Command.TheVariants.{Document, Show, Sample}
 use Rattle.commands.specs.declared.words.DocumentCommand.{DocumentCommand}
@@ -17,7 +15,8 @@ use Rattle.commands.specs.Commands.{IsDocumentOf, IsDocumentFaultOf}
 use Rattle.commands.specs.Lines.{usage_line, read_fault_line, refusal_line, too_long}
 use Rattle.commands.specs.Reads.{Read, nothing, whole, above, up_to_fault}
 use Rattle.commands.specs.Outcomes.{IsOutcome}
-use Rattle.commands.specs.OfSample.{IsTextOfSample}
+use Rattle.commands.specs.Sample.{IsTextOfSample}
+use Rattle.commands.specs.Show.{show_text}
 
 -- What a call owes, by its command, if the words are one, and by what the input came to.
 -- That is the status, the report, and the text or line that is to be written.
@@ -39,7 +38,7 @@ pub data IsOwed : Option Command → Read → Status → Option Report → List 
       → IsOutcome a c s report text
       → IsOwed (Some (Document c)) (whole bytes) s report text
   -- a shipped program is shown as `check` writes one; nothing is read
-  shown : (program : Shipped) → IsOwed (Some (Show program)) nothing status.Done None (check_text 1 (tree_of program))
+  shown : (program : Shipped) → IsOwed (Some (Show program)) nothing status.Done None (show_text program)
   -- the sample of a number is run; nothing is read
   sampled : (seed : ℕ) (report : Report) (text : List ℕ)
       → IsTextOfSample seed report text

@@ -1,13 +1,18 @@
 -- The command `rounds`: how many asynchronous rounds of a run have ended, and how many amoebots wait.
-use Rattle.std.specs.Prelude.{ℕ, List, [], ◌∷◌, ◌++◌, codes, decimal, map}
+use Rattle.std.specs.Prelude.{◌≡◌, ℕ, List, [], ◌∷◌, ◌++◌, codes, decimal, map}
+use Rattle.std.specs.declared.option.Option.{Option}
 use Rattle.text_tokens.specs.Lines.{line_text}
 use Rattle.amoebot_state.specs.declared.verdict.Entry.{Entry}
 use Rattle.amoebot_state.specs.declared.verdict.Verdict.{Verdict}
 use Rattle.amoebot_state.specs.Configs.{Config}
 use Rattle.amoebot_state.specs.Zones.{Shown}
 use Rattle.serial_model.specs.Forms.{InForm}
+use Rattle.claim_core.specs.declared.report.Report.{Report}
 use Rattle.round_meter.specs.Rounds.{IsRounded}
-use Rattle.commands.specs.Replay.{Agrees}
+use Rattle.action_meaning.specs.Verdicts.{verdict_shown}
+use Rattle.shape_files.specs.Documents.{Contents}
+use Rattle.commands.specs.declared.status.Status.{Status}
+use Rattle.commands.specs.Recorded.{Agrees, DocumentRecord, JournalOutcome}
 
 -- the entries are a run from the start to the final shape, so many rounds of it have ended, and so many amoebots wait
 pub record AgreesInRounds (f : Shown → Verdict) (start : Config) (entries : List Entry) (final : Config) (rounds waiting : ℕ) : Type 0 where
@@ -22,3 +27,15 @@ CountedIn form f start told final rounds waiting =
 abbrev pub rounds_text : ℕ → ℕ → List ℕ
 rounds_text rounds waiting =
     line_text (codes "rounds" ∷ decimal rounds ∷ []) ++ line_text (codes "waiting" ∷ decimal waiting ∷ [])
+
+-- the text of a run's entries: how many of its rounds have ended, and how many amoebots wait
+pub record IsRoundsText (f : Shown → Verdict) (start : Config) (entries : List Entry) (text : List ℕ) : Type 0 where
+  pub rounds : ℕ
+  pub waiting : ℕ
+  pub counted : IsRounded f start entries rounds waiting
+  pub whole : text ≡ rounds_text rounds waiting
+
+-- the journal agrees, and its rounds are told; or it differs
+abbrev pub RoundsOutcome : Contents → Status → Option Report → List ℕ → Type 0
+RoundsOutcome a s report text =
+    (d : DocumentRecord a) × JournalOutcome a d (IsRoundsText (verdict_shown d.program) d.start) s report text

@@ -1,5 +1,5 @@
 -- The commands and their words. All of it is this project's profile.
-use Rattle.std.specs.Prelude.{◌≡◌, ℕ, ◌^◌, ◌<◌, ◌≤◌, ◌&&◌, Bool, true, false, List, [], ◌∷◌, length, codes, if◌then◌else◌, nat_le, nat_lt}
+use Rattle.std.specs.Prelude.{◌≡◌, ℕ, ◌^◌, ◌<◌, ◌≤◌, ◌&&◌, Bool, true, List, [], ◌∷◌, length, codes, if◌then◌else◌, nat_le, nat_lt}
 use Rattle.std.specs.List.{list_all}
 use Rattle.std.specs.declared.option.Option.{Option}
 use Rattle.std.specs.declared.option.Option.TheVariants.{Some, None}
@@ -13,35 +13,17 @@ use Rattle.shipped_programs.specs.Shipped.{shipped_name}
 use Rattle.commands.specs.declared.words.Command.{Command}
 use Rattle.commands.specs.declared.words.Command.TheVariants.{Document, Show, Sample}
 use Rattle.commands.specs.declared.words.DocumentCommand.{DocumentCommand}
+use Rattle.commands.specs.Commands.{row_of}
 use Rattle.commands.specs.declared.words.DocumentCommand.TheVariants.{Run, Interleave, Replay, Check, Measure, Renew, Rewind, Rounds, Elect, Tickets}
 
 -- ---- when words are those of a command
 
--- the first word of a command that reads a document
+-- the first word of a command that reads a document, and whether it is its only word
 abbrev pub word_of : DocumentCommand → List ℕ
-word_of Run = codes "run"
-word_of Interleave = codes "interleave"
-word_of Replay = codes "replay"
-word_of Check = codes "check"
-word_of Measure = codes "measure"
-word_of Renew = codes "renew"
-word_of (Rewind place) = codes "rewind"
-word_of Rounds = codes "rounds"
-word_of Elect = codes "elect"
-word_of Tickets = codes "tickets"
+word_of c = (row_of c).word
 
--- it is the command's only word
 abbrev pub is_one_word : DocumentCommand → Bool
-is_one_word Run = true
-is_one_word Interleave = true
-is_one_word Replay = true
-is_one_word Check = true
-is_one_word Measure = true
-is_one_word Renew = true
-is_one_word (Rewind place) = false
-is_one_word Rounds = true
-is_one_word Elect = true
-is_one_word Tickets = true
+is_one_word c = (row_of c).alone
 
 -- a word that is a number: one digit to ten, which write one below 2^32
 pub record IsNumberWord (digits : List ℕ) (number : ℕ) : Type 0 where

@@ -23,10 +23,11 @@ use Rattle.commands.specs.Reports.{report_text}
 use Rattle.commands.specs.Run.{IsRunReport}
 use Rattle.commands.specs.Interleave.{IsInterleaveReport}
 use Rattle.commands.specs.Renew.{renewed_text}
-use Rattle.commands.specs.Replay.{Agrees, AgreesIn, DiffersAt, agrees_line, differs_line}
+use Rattle.commands.specs.Replay.{agrees_line}
 use Rattle.commands.specs.Measure.{IsMeasureText}
 use Rattle.commands.specs.Rounds.{AgreesInRounds, CountedIn, rounds_text}
 use Rattle.commands.specs.Sample.{IsSampleText}
+use Rattle.commands.specs.Recorded.{Agrees, AgreesIn, DiffersAt, differs_line}
 
 -- the shape at the start, and the one in which the second amoebot has expanded
 abbrev pub start : Config

@@ -1,7 +1,10 @@
 //! What is answered, and what is prepared for workers.
 
 ghost use Rattle.std.specs.Prelude.{◌≡◌, IfOk, None};
-ghost use Rattle.commands.specs.Answers.{agrees_with, differs_with, refused_with};
+ghost use Rattle.commands.specs.Answers.{with_text};
+ghost use Rattle.commands.specs.Lines.{refusal_line};
+ghost use Rattle.commands.specs.Recorded.{differs_line};
+ghost use Rattle.commands.specs.Replay.{agrees_line};
 
 use crate::replay::{print_agrees, print_differs};
 use crate::status::Status;
@@ -58,7 +61,7 @@ pub enum Task {
 
 /// The answer that is done with a text, and tells no report.
 pub(crate) fn done(text: Text) -> Answer
-    ensures { result ≡ record { status = Status.Done; report = None; text = text } }
+    ensures { result ≡ with_text Status.Done text }
 {
     Answer {
         status: Status::Done,
@@ -69,7 +72,7 @@ pub(crate) fn done(text: Text) -> Answer
 
 /// The answer that is the line of a refusal.
 pub(crate) fn refuse(alloc: Global, refusal: Refusal) -> Result<Answer, NoMemory>
-    ensures { IfOk result (λ a. a ≡ refused_with refusal) }
+    ensures { IfOk result (λ a. a ≡ with_text (Status.Refused refusal) (refusal_line refusal)) }
 {
     let mut lines = Lines::new(alloc);
     lines.begin("refused")?;
@@ -85,7 +88,7 @@ pub(crate) fn refuse(alloc: Global, refusal: Refusal) -> Result<Answer, NoMemory
 
 /// The answer that a journal of so many entries agrees.
 pub(crate) fn agree(alloc: Global, entries: usize) -> Result<Answer, NoMemory>
-    ensures { IfOk result (λ a. a ≡ agrees_with entries) }
+    ensures { IfOk result (λ a. a ≡ with_text Status.Done (agrees_line entries)) }
 {
     let text = print_agrees(alloc, entries)?;
     Ok(done(text))
@@ -93,7 +96,7 @@ pub(crate) fn agree(alloc: Global, entries: usize) -> Result<Answer, NoMemory>
 
 /// The answer that a journal differs at a place.
 pub(crate) fn differ(alloc: Global, place: u32) -> Result<Answer, NoMemory>
-    ensures { IfOk result (λ a. a ≡ differs_with place) }
+    ensures { IfOk result (λ a. a ≡ with_text (Status.Differs place) (differs_line place)) }
 {
     let text = print_differs(alloc, place)?;
     Ok(Answer {

@@ -3,12 +3,13 @@
 ghost use Rattle.std.specs.Prelude.{◌≡◌, IfOk, IsSome, Some};
 ghost use Rattle.shape_files.specs.Fitting.{Fits};
 ghost use Rattle.shape_files.specs.Views.{contents};
-ghost use Rattle.commands.specs.Answers.{IsAnswerTo};
 ghost use Rattle.commands.specs.Commands.{form_of};
-ghost use Rattle.commands.specs.Check.{check_text};
+ghost use Rattle.commands.specs.Check.{check_text, CheckOutcome};
 ghost use Rattle.commands.specs.ReportLaws.{CanonMeansTheSame};
+ghost use Rattle.commands.specs.Answers.{IsAnswerOf};
 
 use crate::answer::{Answer, done};
+use crate::lines::put_number;
 use crate::words::DocumentCommand;
 use action_check::Checked;
 use action_print::put_program;
@@ -21,7 +22,7 @@ use text_tokens::{Lines, Text};
 /// The program is printed in its canonical form, under the version of its document.
 pub(crate) fn answer_check(alloc: Global, parts: Parts) -> Result<Answer, NoMemory>
     requires { Fits (form_of DocumentCommand.Check) (contents parts) }
-    ensures { IfOk result (IsAnswerTo DocumentCommand.Check (contents parts)) }
+    ensures { IfOk result (IsAnswerOf (CheckOutcome (contents parts))) }
 {
     let version = parts.version;
     let checked = checked_of(parts);

@@ -1,6 +1,6 @@
 //! The command `elect`: the candidates and the leader at the end of an election.
 
-ghost use Rattle.std.specs.Prelude.{◌≡◌, ◌≢◌, ◌<◌, length, IfOk, IfErr, IfSome, MatchResult, OnOk, ◌∷◌, ◌++◌, [], codes};
+ghost use Rattle.std.specs.Prelude.{◌≡◌, ◌≢◌, ◌<◌, length, IfOk, IfErr, IfSome, MatchResult, OnOk, ◌∷◌, ◌++◌, [], codes, None};
 ghost use Rattle.std.specs.List.{All};
 ghost use Rattle.serial_model.specs.Replays.{AreCountable};
 ghost use Rattle.shape_checks.specs.Values.{value_count};
@@ -8,18 +8,18 @@ ghost use Rattle.action_meaning.specs.Verdicts.{verdict_shown};
 ghost use Rattle.election_law.specs.Elections.{cand_var, leader_of};
 ghost use Rattle.shape_files.specs.Fitting.{Fits};
 ghost use Rattle.shape_files.specs.Views.{contents};
-ghost use Rattle.commands.specs.Replay.{AgreesIn, DiffersAt};
-ghost use Rattle.commands.specs.Answers.{IsAnswerTo, differs_with, elected_with, refused_with};
+ghost use Rattle.commands.specs.Recorded.{AgreesIn, DiffersAt, EntriesOutcome, differs_line};
 ghost use Rattle.commands.specs.Commands.{form_of};
-ghost use Rattle.commands.specs.Lines.{bad_start};
-ghost use Rattle.commands.specs.Told.{TellsRun};
+ghost use Rattle.commands.specs.Lines.{bad_start, refusal_line};
 ghost use Rattle.text_tokens.specs.Lines.{line_text};
-ghost use Rattle.commands.specs.Elect.{election_text, leader_word};
+ghost use Rattle.commands.specs.Elect.{election_text, leader_word, ElectOutcome, elected_text};
 ghost use Rattle.commands.specs.ElectLaws.{ElectEndsAsReplay, ElectionsAreWon};
+ghost use Rattle.commands.specs.Answers.{IsAnswerOf, with_text};
 
 use crate::answer::{Answer, differ, done, refuse};
 use crate::lines::{put_number, put_word};
 use crate::recorded::{Journal, Recorded, recorded_in};
+use crate::status::Status;
 use crate::words::DocumentCommand;
 use amoebot_state::{NoMemory, World};
 use election_law::{ElectRefusal, Election, erosion_elects, is_erosion, start_laws};
@@ -31,7 +31,7 @@ use text_tokens::{Lines, Refusal, RefusalKind, Text};
 /// The program is judged, then the shape at the start. Then the journal is compared as for `replay`, and its last world is told.
 pub(crate) fn answer_elect(alloc: Global, parts: Parts) -> Result<Answer, NoMemory>
     requires { Fits (form_of DocumentCommand.Elect) (contents parts) }
-    ensures { IfOk result (IsAnswerTo DocumentCommand.Elect (contents parts)) }
+    ensures { IfOk result (IsAnswerOf (ElectOutcome (contents parts))) }
 {
     start_laws();
     let Recorded {
@@ -62,8 +62,8 @@ fn elect<E: EntryForm>(
     requires there { All (λ e. E.bot e < length election.world.bots) entries.now }
     requires few { AreCountable entries.now }
     requires begun { election.steps ≡ 0 }
-    ensures { IfOk result (TellsRun E.form election.program election.world entries.now last.now
-        (λ es a. a ≡ elected_with (value_count last.now cand_var 1) (leader_of last.now))) }
+    ensures { IfOk result (IsAnswerOf (EntriesOutcome E.form (verdict_shown election.program) election.world entries.now last.now
+        (λ _ text. text ≡ elected_text last.now))) }
 {
     let made = make_steps(&mut election, entries, last);
     tell_election(alloc, &election, made)
@@ -78,7 +78,7 @@ fn whole_document(kind: RefusalKind) -> Refusal
 
 /// The answer to a start that is refused, except where there was not enough memory to judge it.
 fn refuse_start(alloc: Global, refusal: ElectRefusal) -> Result<Answer, NoMemory>
-    ensures { IfOk result (λ answer. (refusal ≢ ElectRefusal.NoMemory) × (answer ≡ refused_with bad_start)) }
+    ensures { IfOk result (λ answer. (refusal ≢ ElectRefusal.NoMemory) × (answer ≡ with_text (Status.Refused bad_start) (refusal_line bad_start))) }
 {
     match start_fault(refusal) {
         Some(fault) => refuse(alloc, fault),
@@ -107,8 +107,8 @@ fn tell_election(
 ) -> Result<Answer, NoMemory>
     ensures { let world = election.now.world in
         IfOk result (λ answer. MatchResult made
-        (λ _. answer ≡ elected_with (value_count world cand_var 1) (leader_of world))
-        (λ e. answer ≡ differs_with e.place)) }
+        (λ _. answer ≡ with_text Status.Done (elected_text world))
+        (λ e. answer ≡ with_text (Status.Differs e.place) (differs_line e.place))) }
 {
     match made {
         Ok(()) => {

@@ -3,14 +3,14 @@
 ghost use Rattle.std.specs.Prelude.{IfOk, ◌≡◌, ◌<◌, length, reverse};
 ghost use Rattle.shape_files.specs.Fitting.{Fits};
 ghost use Rattle.shape_files.specs.Views.{contents};
-ghost use Rattle.commands.specs.Answers.{IsAnswerTo};
 ghost use Rattle.commands.specs.Commands.{form_of};
 ghost use Rattle.std.specs.List.{All};
 ghost use Rattle.claim_core.specs.Turns.{HaveBots};
 ghost use Rattle.claim_core.specs.Machine.{after};
 ghost use Rattle.claim_core.specs.Cores.{opening_core, setup_of};
-ghost use Rattle.commands.specs.Interleave.{IsInterleaveReport};
+ghost use Rattle.commands.specs.Interleave.{IsInterleaveReport, InterleaveOutcome};
 ghost use Rattle.commands.specs.ReportLaws.{InterleaveReportIsOne, ScheduleHasOneReport};
+ghost use Rattle.commands.specs.Answers.{IsAnswerOf};
 
 use crate::answer::Answer;
 use crate::report::answer_report;
@@ -25,7 +25,7 @@ use std::alloc::Global;
 /// The steps of the schedule are made, and then rounds, and the text of the report is made.
 pub(crate) fn answer_interleave(alloc: Global, parts: Parts) -> Result<Answer, NoMemory>
     requires { Fits (form_of DocumentCommand.Interleave) (contents parts) }
-    ensures { IfOk result (IsAnswerTo DocumentCommand.Interleave (contents parts)) }
+    ensures { IfOk result (IsAnswerOf (InterleaveOutcome (contents parts))) }
 {
     let Parts {
         version,

@@ -4,10 +4,10 @@ ghost use Rattle.std.specs.Prelude.{◌≡◌, IfOk, IsSome, Some};
 ghost use Rattle.std.specs.Option.{option_or};
 ghost use Rattle.shape_files.specs.Fitting.{Fits};
 ghost use Rattle.shape_files.specs.Views.{contents};
-ghost use Rattle.commands.specs.Answers.{IsAnswerTo};
 ghost use Rattle.commands.specs.Commands.{form_of};
-ghost use Rattle.commands.specs.Measure.{IsMeasureText};
+ghost use Rattle.commands.specs.Measure.{IsMeasureText, MeasureOutcome};
 ghost use Rattle.commands.specs.ReportLaws.{MeasureTextIsOne};
+ghost use Rattle.commands.specs.Answers.{IsAnswerOf};
 
 use crate::answer::{Answer, done};
 use crate::lines::{put_answer, put_number};
@@ -21,7 +21,7 @@ use text_tokens::{Lines, Text};
 /// The last shape is measured.
 pub(crate) fn answer_measure(alloc: Global, parts: Parts) -> Result<Answer, NoMemory>
     requires { Fits (form_of DocumentCommand.Measure) (contents parts) }
-    ensures { IfOk result (IsAnswerTo DocumentCommand.Measure (contents parts)) }
+    ensures { IfOk result (IsAnswerOf (MeasureOutcome (contents parts))) }
 {
     let (world, final_world) = shapes_of(parts);
     let last = last_shape(world, final_world);

@@ -4,7 +4,7 @@ ghost use Rattle.std.specs.Prelude.{◌≡◌, length};
 ghost use Rattle.shape_files.specs.Fitting.{Fits};
 ghost use Rattle.shape_files.specs.Views.{contents};
 ghost use Rattle.commands.specs.Commands.{form_of};
-ghost use Rattle.commands.specs.Told.{HasItsJournal, IsOfBots, full_of};
+ghost use Rattle.commands.specs.Journals.{HasItsJournal, IsOfBots, full_of, IsRecordOf};
 
 use crate::words::DocumentCommand;
 use action_eval::Runner;
@@ -45,12 +45,7 @@ pub(crate) struct Recorded {
 /// What a document has that a command with a journal looks at. The amoebots of the entries are the start's.
 pub(crate) fn recorded_in(parts: Parts) -> Recorded
     requires { Fits (form_of DocumentCommand.Replay) (contents parts) }
-    ensures program { (contents parts).checked ≡ Some result.runner }
-    ensures start { (contents parts).world ≡ Some result.start }
-    ensures last { (contents parts).final_world ≡ Some result.last }
-    ensures entries { (contents parts).entries ≡ full_of result.journal }
-    ensures journal { HasItsJournal (contents parts) result.journal }
-    ensures bots { IsOfBots (length result.start.bots) result.journal }
+    ensures { IsRecordOf (contents parts) result }
 {
     let Parts {
         checked,

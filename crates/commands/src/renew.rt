@@ -7,17 +7,19 @@ ghost use Rattle.serial_model.specs.Forms.{full_entry};
 ghost use Rattle.serial_model.specs.Replays.{AreCountable};
 ghost use Rattle.shape_files.specs.Fitting.{Fits};
 ghost use Rattle.shape_files.specs.Views.{contents};
-ghost use Rattle.commands.specs.Answers.{IsAnswerTo, renewed_with};
+ghost use Rattle.commands.specs.Recorded.{Agrees, DiffersAt, EntriesOutcome};
 ghost use Rattle.commands.specs.Commands.{form_of};
-ghost use Rattle.commands.specs.Told.{TellsRun};
-ghost use Rattle.commands.specs.Replay.{Agrees, DiffersAt};
 ghost use Rattle.amoebot_state.specs.Limits.{most_vars};
-ghost use Rattle.commands.specs.Renew.{renewed_text};
+ghost use Rattle.commands.specs.Renew.{renewed_text, RenewOutcome};
 ghost use Rattle.commands.specs.RenewLaws.{RenewEndsAsReplay, RenewedIsReplayed, RenewedStays};
+ghost use Rattle.commands.specs.Answers.{IsAnswerOf, with_text};
+ghost use Rattle.action_meaning.specs.Verdicts.{verdict_shown};
 
 use crate::answer::{Answer, differ, done};
+use crate::lines::put_word;
 use crate::recorded::{Journal, Recorded, recorded_in};
 use crate::replay::compare;
+use crate::status::Status;
 use crate::words::DocumentCommand;
 use action_eval::Runner;
 use action_meaning::{changes_are_acts, verdict_ignores_lines};
@@ -37,7 +39,7 @@ use text_tokens::{Lines, Text};
 /// The journal is compared as for `replay`. Where it agrees the document is written anew.
 pub(crate) fn answer_renew(alloc: Global, parts: Parts) -> Result<Answer, NoMemory>
     requires { Fits (form_of DocumentCommand.Renew) (contents parts) }
-    ensures { IfOk result (IsAnswerTo DocumentCommand.Renew (contents parts)) }
+    ensures { IfOk result (IsAnswerOf (RenewOutcome (contents parts))) }
 {
     let Recorded {
         runner,
@@ -61,8 +63,8 @@ fn renew_full(
 ) -> Result<Answer, NoMemory>
     requires there { All (λ e. e.bot < length start.now.bots) entries.now }
     requires few { AreCountable entries.now }
-    ensures { IfOk result (TellsRun full_entry runner.now start.now entries.now last.now
-        (λ es a. a ≡ renewed_with runner.now start.now es last.now)) }
+    ensures { IfOk result (IsAnswerOf (EntriesOutcome full_entry (verdict_shown runner.now) start.now entries.now last.now
+        (λ es text. text ≡ renewed_text runner.now start.now es last.now))) }
 {
     let taken = start.copy(alloc)?;
     match compare(runner, taken, entries, last) {
@@ -81,8 +83,8 @@ fn renew_plain(
 ) -> Result<Answer, NoMemory>
     requires there { All (λ p. p.bot < length start.now.bots) entries.now }
     requires few { AreCountable entries.now }
-    ensures { IfOk result (TellsRun plain_entry runner.now start.now entries.now last.now
-        (λ es a. a ≡ renewed_with runner.now start.now es last.now)) }
+    ensures { IfOk result (IsAnswerOf (EntriesOutcome plain_entry (verdict_shown runner.now) start.now entries.now last.now
+        (λ es text. text ≡ renewed_text runner.now start.now es last.now))) }
 {
     let taken = start.copy(alloc)?;
     match follow_all(alloc, runner, taken, entries, last)? {
@@ -99,7 +101,7 @@ fn renew(
     entries: &[Entry],
     last: &World,
 ) -> Result<Answer, NoMemory>
-    ensures { IfOk result (λ a. a ≡ renewed_with runner.now start.now entries.now last.now) }
+    ensures { IfOk result (λ a. a ≡ with_text Status.Done (renewed_text runner.now start.now entries.now last.now)) }
 {
     let text = print_renewed(alloc, runner.checked().program(), start, entries, last)?;
     Ok(done(text))

@@ -5,15 +5,17 @@ ghost use Rattle.std.specs.List.{All};
 ghost use Rattle.serial_model.specs.Replays.{AreCountable};
 ghost use Rattle.shape_files.specs.Fitting.{Fits};
 ghost use Rattle.shape_files.specs.Views.{contents};
-ghost use Rattle.commands.specs.Answers.{IsAnswerTo, agrees_with};
+ghost use Rattle.commands.specs.Recorded.{AgreesIn, DiffersAt, differs_line, EntriesOutcome};
 ghost use Rattle.commands.specs.Commands.{form_of};
-ghost use Rattle.commands.specs.Told.{TellsRun};
-ghost use Rattle.commands.specs.Replay.{AgreesIn, DiffersAt, agrees_line, differs_line};
+ghost use Rattle.commands.specs.Replay.{agrees_line, ReplayOutcome};
 ghost use Rattle.commands.specs.ReportLaws.{ReplayIsDecided};
 ghost use Rattle.commands.specs.ReplayLaws.{InterleaveTextsAreReplayed, RunTextsAreReplayed, TicketTextsAreReplayed, WhatIsOwedIsReplayed};
+ghost use Rattle.commands.specs.Answers.{IsAnswerOf};
+ghost use Rattle.action_meaning.specs.Verdicts.{verdict_shown};
 
 use crate::answer::{Answer, agree, differ};
 use crate::laws::good_is_few;
+use crate::lines::put_number;
 use crate::recorded::{Journal, Recorded, recorded_in};
 use crate::words::DocumentCommand;
 use action_eval::Runner;
@@ -32,7 +34,7 @@ use text_tokens::{Lines, Text};
 /// The journal is compared with a run from the shape to the final shape, by what it has of each entry.
 pub(crate) fn answer_replay(alloc: Global, parts: Parts) -> Result<Answer, NoMemory>
     requires { Fits (form_of DocumentCommand.Replay) (contents parts) }
-    ensures { IfOk result (IsAnswerTo DocumentCommand.Replay (contents parts)) }
+    ensures { IfOk result (IsAnswerOf (ReplayOutcome (contents parts))) }
 {
     let Recorded {
         runner,
@@ -56,7 +58,8 @@ fn tell_run<E: EntryForm>(
 ) -> Result<Answer, NoMemory>
     requires there { All (λ e. E.bot e < length start.bots) entries.now }
     requires few { AreCountable entries.now }
-    ensures { IfOk result (TellsRun E.form runner.now start entries.now last.now (λ es a. a ≡ agrees_with (length es))) }
+    ensures { IfOk result (IsAnswerOf (EntriesOutcome E.form (verdict_shown runner.now) start entries.now last.now
+        (λ es text. text ≡ agrees_line (length es)))) }
 {
     match compare(runner, start, entries, last) {
         Ok(()) => agree(alloc, entries.len()),

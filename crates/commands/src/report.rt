@@ -6,9 +6,10 @@ ghost use Rattle.commands.specs.Reports.{report_text};
 ghost use Rattle.journal_text.specs.Texts.{journal_of_version};
 ghost use Rattle.claim_core.specs.Good.{Good};
 ghost use Rattle.action_meaning.specs.Verdicts.{verdict_shown};
-ghost use Rattle.commands.specs.Answers.{IsCounted, TellsReport, done_with};
+ghost use Rattle.commands.specs.Answers.{IsCounted, TellsReport, with_report};
 
 use crate::answer::{Answer, Telling};
+use crate::sample::tell_sample;
 use crate::status::Status;
 use action_eval::Runner;
 use amoebot_state::{Entry, NoMemory};
@@ -74,7 +75,7 @@ fn tell_report(
     runner: &Runner,
     report: Report,
 ) -> Result<Answer, NoMemory>
-    ensures { IfOk result (λ a. a ≡ done_with version (length runner.now.vars) report) }
+    ensures { IfOk result (λ a. a ≡ with_report version (length runner.now.vars) report) }
 {
     let checked = runner.checked();
     checked.program();
@@ -89,7 +90,7 @@ pub(crate) fn answer_report(
     vars: u8,
 ) -> Result<Answer, NoMemory>
     requires { vars ≤ most_vars }
-    ensures { IfOk result (λ a. a ≡ done_with version vars report) }
+    ensures { IfOk result (λ a. a ≡ with_report version vars report) }
 {
     let text = print_report(alloc, version, &report, vars)?;
     Ok(Answer {

@@ -1,18 +1,20 @@
 //! The command `rewind`: the shape at a place of a journal, seen from the final shape.
 
-ghost use Rattle.std.specs.Prelude.{◌≡◌, ◌<◌, ◌≤◌, IfOk, length};
+ghost use Rattle.std.specs.Prelude.{◌≡◌, ◌<◌, ◌≤◌, IfOk, length, codes};
 ghost use Rattle.std.specs.List.{All};
 ghost use Rattle.serial_model.specs.Replays.{AreCountable};
 ghost use Rattle.shape_files.specs.Fitting.{Fits};
 ghost use Rattle.shape_files.specs.Views.{contents};
-ghost use Rattle.commands.specs.Answers.{IsAnswerTo, unwound_with};
 ghost use Rattle.commands.specs.Commands.{form_of, least_for};
 ghost use Rattle.commands.specs.Lines.{no_such_place};
-ghost use Rattle.commands.specs.Told.{TellsBack};
 ghost use Rattle.commands.specs.RewindLaws.{RewindUndoesReplay};
+ghost use Rattle.commands.specs.Answers.{IsAnswerOf, with_text};
+ghost use Rattle.commands.specs.Rewind.{RewindOutcome};
+ghost use Rattle.shape_text.specs.Texts.{shape_text};
 
 use crate::answer::{Answer, differ, done, refuse};
 use crate::recorded::{Recorded, recorded_in};
+use crate::status::Status;
 use crate::words::DocumentCommand;
 use action_eval::Runner;
 use amoebot_state::{Entry, NoMemory, World};
@@ -27,7 +29,7 @@ use text_tokens::{Refusal, RefusalKind};
 pub(crate) fn answer_rewind(alloc: Global, place: u32, parts: Parts) -> Result<Answer, NoMemory>
     requires fits { Fits (form_of (DocumentCommand.Rewind place)) (contents parts) }
     requires least { least_for (DocumentCommand.Rewind place) ≤ (contents parts).version }
-    ensures { IfOk result (IsAnswerTo (DocumentCommand.Rewind place) (contents parts)) }
+    ensures { IfOk result (IsAnswerOf (RewindOutcome (contents parts) place)) }
 {
     let Recorded {
         runner,
@@ -40,25 +42,8 @@ pub(crate) fn answer_rewind(alloc: Global, place: u32, parts: Parts) -> Result<A
     if (place as usize) > entries.len() {
         return refuse(alloc, bad_place());
     }
-    rewind_to(alloc, &runner, &start, last, entries, place)
-}
-
-/// The answer to a place that the journal has.
-fn rewind_to(
-    alloc: Global,
-    runner: &Runner,
-    start: &World,
-    last: World,
-    entries: &[Entry],
-    place: u32,
-) -> Result<Answer, NoMemory>
-    requires there { All (λ e. e.bot < length start.now.bots) entries.now }
-    requires few { AreCountable entries.now }
-    requires within { place ≤ length entries.now }
-    ensures { IfOk result (TellsBack runner.now start.now last entries.now place) }
-{
-    match unwind(runner, start, last, entries, place) {
-        Ok(shape) => show_shape(alloc, runner, &shape),
+    match unwind(&runner, &start, last, entries, place) {
+        Ok(shape) => show_shape(alloc, &runner, &shape),
         Err(differs) => differ(alloc, differs.place),
     }
 }
@@ -75,7 +60,7 @@ fn bad_place() -> Refusal
 
 /// The answer that is the section of a shape.
 fn show_shape(alloc: Global, runner: &Runner, shape: &World) -> Result<Answer, NoMemory>
-    ensures { IfOk result (λ a. a ≡ unwound_with (length runner.now.vars) shape.now) }
+    ensures { IfOk result (λ a. a ≡ with_text Status.Done (shape_text (codes "shape") (length runner.now.vars) shape.now)) }
 {
     let checked = runner.checked();
     checked.program();

@@ -5,13 +5,13 @@ ghost use Rattle.std.specs.List.{All};
 ghost use Rattle.serial_model.specs.Replays.{AreCountable};
 ghost use Rattle.shape_files.specs.Fitting.{Fits};
 ghost use Rattle.shape_files.specs.Views.{contents};
-ghost use Rattle.commands.specs.Answers.{IsAnswerTo};
+ghost use Rattle.commands.specs.Recorded.{DiffersAt, EntriesOutcome};
 ghost use Rattle.commands.specs.Commands.{form_of};
-ghost use Rattle.commands.specs.Told.{TellsRounds, TellsRun};
-ghost use Rattle.commands.specs.Replay.{DiffersAt};
-ghost use Rattle.commands.specs.Rounds.{CountedIn, rounds_text};
+ghost use Rattle.commands.specs.Rounds.{CountedIn, rounds_text, RoundsOutcome, IsRoundsText};
 ghost use Rattle.commands.specs.ReportLaws.{RoundsAreDecided};
 ghost use Rattle.commands.specs.RoundsLaws.{RoundsEndAsReplay};
+ghost use Rattle.commands.specs.Answers.{IsAnswerOf};
+ghost use Rattle.action_meaning.specs.Verdicts.{verdict_shown};
 
 use crate::answer::{Answer, differ, done};
 use crate::lines::put_number;
@@ -28,7 +28,7 @@ use text_tokens::{Lines, Text};
 /// The journal is compared as for `replay`. Where it agrees its rounds are counted.
 pub(crate) fn answer_rounds(alloc: Global, parts: Parts) -> Result<Answer, NoMemory>
     requires { Fits (form_of DocumentCommand.Rounds) (contents parts) }
-    ensures { IfOk result (IsAnswerTo DocumentCommand.Rounds (contents parts)) }
+    ensures { IfOk result (IsAnswerOf (RoundsOutcome (contents parts))) }
 {
     let Recorded {
         runner,
@@ -52,7 +52,8 @@ fn tell_count<E: EntryForm>(
 ) -> Result<Answer, NoMemory>
     requires there { All (λ e. E.bot e < length start.bots) entries.now }
     requires few { AreCountable entries.now }
-    ensures { IfOk result (TellsRun E.form runner.now start entries.now last.now (TellsRounds runner.now start)) }
+    ensures { IfOk result (IsAnswerOf (EntriesOutcome E.form (verdict_shown runner.now) start entries.now last.now
+        (IsRoundsText (verdict_shown runner.now) start))) }
 {
     match count_rounds(alloc, runner, start, entries, last)? {
         Ok(count) => {

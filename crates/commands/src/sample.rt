@@ -8,7 +8,7 @@ ghost use Rattle.claim_core.specs.Good.{Good};
 ghost use Rattle.action_meaning.specs.Verdicts.{verdict_shown};
 ghost use Rattle.std.specs.List.{All};
 ghost use Rattle.serial_model.specs.Replays.{AreCountable};
-ghost use Rattle.commands.specs.Replay.{Agrees};
+ghost use Rattle.commands.specs.Recorded.{Agrees};
 ghost use Rattle.commands.specs.Sample.{IsSampleText, sample_text};
 ghost use Rattle.commands.specs.ReportLaws.{SampleTextIsOne};
 
@@ -42,7 +42,7 @@ pub fn prepare_sample(alloc: Global, seed: u32) -> Result<Prepared, NoMemory>
 }
 
 /// The answer that tells a report as that of a number's sample.
-fn tell_sample(
+pub(crate) fn tell_sample(
     alloc: Global,
     seed: u32,
     runner: &Runner,

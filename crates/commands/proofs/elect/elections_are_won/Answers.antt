@@ -1,5 +1,5 @@
 use Rattle.commands.proofs.ElectLemmas.{elections_are_won, elect_ends_as_replay}
-use Rattle.commands.proofs.elect_laws.elections_are_won.Goals as goal
+use Rattle.commands.proofs.elect.elections_are_won.Goals as goal
 
 pub returns : goal.returns
 returns c = record {

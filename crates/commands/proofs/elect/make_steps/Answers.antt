@@ -1,15 +1,13 @@
-use Rattle.std.proofs.Common.{◌≡◌, ◌+◌, ℕ, length, take, arith, ap, sym, subst, ◌∙◌}
+use Rattle.std.proofs.Common.{◌≡◌, ◌+◌, ℕ, length, arith, ap, sym, subst, ◌∙◌}
 use Rattle.std.proofs.lemmas.Bool.{false≢true}
-use Rattle.std.proofs.Math.Seq.{take-length}
 use Rattle.amoebot_state.proofs.Options.{err_told}
 use Rattle.serial_model.specs.Replays.{IsNoStep, StepIn}
-use Rattle.serial_model.proofs.Runs.{run_begins}
 use Rattle.action_tree.specs.Trees.{Program}
 use Rattle.action_meaning.specs.Verdicts.{verdict_shown}
-use Rattle.commands.specs.Replay.{DiffersAt, at_end}
+use Rattle.commands.specs.Recorded.{DiffersAt, at_end}
 use Rattle.commands.proofs.ToldEntries.{told_all}
 use Rattle.commands.proofs.ElectSteps.{made_more, stops_at}
-use Rattle.commands.proofs.of_elect.make_steps.Goals as goal
+use Rattle.commands.proofs.elect.make_steps.Goals as goal
 
 pub returns-in_err-step_in-clause-differs : goal.returns-in_err-step_in-clause-differs
 returns-in_err-step_in-clause-differs g c =

@@ -1,7 +1,7 @@
 use Rattle.std.proofs.Common.{◌≡◌, length, take}
 use Rattle.serial_model.specs.Replays.{RunIn}
 use Rattle.action_meaning.specs.Verdicts.{verdict_shown}
-use Rattle.commands.proofs.of_elect.make_steps.Given as goal
+use Rattle.commands.proofs.elect.make_steps.Given as goal
 
 abbrev pub invariant-loop-told : goal.invariant-loop-told
 invariant-loop-told g l = record {

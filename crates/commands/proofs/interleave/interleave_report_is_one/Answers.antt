@@ -1,7 +1,7 @@
 use Rattle.claim_core.specs.Machine.{setup}
 use Rattle.commands.proofs.Reported.{same_text}
 use Rattle.commands.proofs.Scheduled.{schedule_has_one_report}
-use Rattle.commands.proofs.laws.interleave_report_is_one.Goals as goal
+use Rattle.commands.proofs.interleave.interleave_report_is_one.Goals as goal
 
 pub returns-clause-report : goal.returns-clause-report
 returns-clause-report c = schedule_has_one_report c.state_has_one_report.ensures

@@ -1,7 +1,7 @@
 use Rattle.std.proofs.Common.{◌<◌, ℕ, sym, subst}
 use Rattle.std.specs.List.{All}
 use Rattle.commands.proofs.Interleavings.{opens, interleaved}
-use Rattle.commands.proofs.interleaving.run_interleaved.Goals as goal
+use Rattle.commands.proofs.interleave.run_interleaved.Goals as goal
 
 pub step_all-requires-clause-callers : goal.step_all-requires-clause-callers
 step_all-requires-clause-callers g c = λ κs lives. subst (λ (n : ℕ). All (λ (caller : ℕ). caller < n) c.args.schedule.now) (sym c.in_ok-core.ensures.callers) c.requires.callers

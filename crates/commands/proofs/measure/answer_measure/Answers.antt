@@ -1,12 +1,17 @@
-use Rattle.std.proofs.Common.{◌∙◌}
+use Rattle.std.proofs.Common.{◌≡◌, Some, ◌∙◌}
 use Rattle.std.specs.Option.{option_or}
+use Rattle.amoebot_state.specs.Configs.{Config}
 use Rattle.shape_files.specs.Views.{contents}
-use Rattle.commands.specs.declared.words.DocumentCommand.TheVariants.{Measure}
-use Rattle.commands.proofs.OwedTexts.{is_measured, same_answer}
-use Rattle.commands.proofs.of_measure.answer_measure.Goals as goal
+use Rattle.commands.specs.Measure.{IsMeasureText, MeasureOutcome, last_shape}
+use Rattle.commands.specs.Texts.{written}
+use Rattle.commands.proofs.OwedTexts.{answers}
+use Rattle.commands.proofs.measure.answer_measure.Goals as goal
 
 pub returns : goal.returns
 returns c =
+    let a = contents c.args.parts in
     let same = c.shapes_of-world.ensures in
-    same_answer Measure (contents c.args.parts) _ _ c.done.ensures
-    (is_measured (contents c.args.parts) c.in_ok-text.text c.last_shape-last.result ((λ i. option_or (same.last i) (same.first i)) ∙ c.last_shape-last.ensures) c.in_ok-text.ensures)
+    let text = c.in_ok-text.text in
+    let its : (last : Config) × (last_shape a ≡ Some last) × IsMeasureText last text =
+    (c.last_shape-last.result, (λ i. option_or (same.last i) (same.first i)) ∙ c.last_shape-last.ensures, c.in_ok-text.ensures) in
+    answers (MeasureOutcome a) _ _ c.done.ensures (written text its)

@@ -1,5 +1,5 @@
 use Rattle.commands.proofs.Measures.{measure_text_is_one}
-use Rattle.commands.proofs.laws.measure_text_is_one.Goals as goal
+use Rattle.commands.proofs.measure.measure_text_is_one.Goals as goal
 
 pub returns : goal.returns
 returns c = measure_text_is_one

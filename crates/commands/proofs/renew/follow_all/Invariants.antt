@@ -1,6 +1,6 @@
 use Rattle.std.proofs.Common.{◌≡◌, length, map, take}
 use Rattle.amoebot_state.specs.Steps.{Run}
-use Rattle.commands.proofs.renewing.follow_all.Given as goal
+use Rattle.commands.proofs.renew.follow_all.Given as goal
 
 abbrev pub invariant-loop-place : goal.invariant-loop-place
 invariant-loop-place g l = record {

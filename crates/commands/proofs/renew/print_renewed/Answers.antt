@@ -7,7 +7,7 @@ use Rattle.action_tree.specs.Views.{var_of}
 use Rattle.journal_text.specs.Texts.{journal_text}
 use Rattle.shape_text.specs.Texts.{shape_text}
 use Rattle.commands.proofs.RenewedTexts.{joined}
-use Rattle.commands.proofs.texts.print_renewed.Goals as goal
+use Rattle.commands.proofs.renew.print_renewed.Goals as goal
 
 pub returns : goal.returns
 returns c =

@@ -1,13 +1,14 @@
-use Rattle.std.proofs.Common.{subst}
-use Rattle.std.proofs.lemmas.Result.{IfOk-weaker}
+use Rattle.std.proofs.Common.{refl, subst, ◌≡◌, ℕ, List}
 use Rattle.amoebot_state.specs.Configs.{Config}
 use Rattle.action_eval.proofs.SharedRunner.{runner_sync}
 use Rattle.action_meaning.specs.Verdicts.{verdict_shown}
 use Rattle.serial_model.specs.Forms.{full_entry}
 use Rattle.serial_model.proofs.Runs.{full_entries, full_is_itself}
-use Rattle.commands.specs.Replay.{AgreesIn, DiffersAt}
-use Rattle.commands.specs.Told.{of_agreeing, of_differing}
-use Rattle.commands.proofs.of_renew.renew_full.Goals as goal
+use Rattle.commands.specs.Recorded.{AgreesIn, DiffersAt, agreeing, differing, EntriesOutcome}
+use Rattle.commands.proofs.renew.renew_full.Goals as goal
+use Rattle.commands.proofs.OwedTexts.{ok_answers}
+use Rattle.commands.specs.Renew.{renewed_text}
+use Rattle.amoebot_state.specs.declared.verdict.Entry.{Entry}
 
 pub compare-requires-sync-D : goal.compare-requires-sync-D
 compare-requires-sync-D c κs = record { shared = runner_sync.shared }
@@ -18,10 +19,14 @@ returns-in-Ok c =
     let es = c.args.entries.now in
     let agrees = subst (λ (w : Config). AgreesIn full_entry f w es c.args.last.now) c.in_ok-taken.ensures c.in-Ok.ensures.agrees in
     let run = (full_is_itself.run f c.args.start.now c.args.last.now es).0 agrees in
-    IfOk-weaker _ _ _ (λ answer is. of_agreeing es (full_entries es) run is) c.renew.ensures
+    let IsText = λ (xs : List Entry) (text : List ℕ). text ≡ renewed_text c.args.runner.now c.args.start.now xs c.args.last.now in
+    let Ends = EntriesOutcome full_entry (verdict_shown c.args.runner.now) c.args.start.now c.args.entries.now c.args.last.now IsText in
+    ok_answers Ends _ _ (agreeing es _ (full_entries es) run refl) c.renew.ensures
 
 pub returns-in-Err : goal.returns-in-Err
 returns-in-Err c =
     let place = c.in-Err.differs.place in
     let differs = subst (λ (w : Config). DiffersAt full_entry (verdict_shown c.args.runner.now) w c.args.entries.now c.args.last.now place) c.in_ok-taken.ensures c.in-Err.ensures.differs in
-    IfOk-weaker _ _ _ (λ answer is. of_differing place differs is) c.differ.ensures
+    let IsText = λ (xs : List Entry) (text : List ℕ). text ≡ renewed_text c.args.runner.now c.args.start.now xs c.args.last.now in
+    let Ends = EntriesOutcome full_entry (verdict_shown c.args.runner.now) c.args.start.now c.args.entries.now c.args.last.now IsText in
+    ok_answers Ends _ _ (differing place differs) c.differ.ensures

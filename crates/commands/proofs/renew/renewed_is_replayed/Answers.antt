@@ -1,5 +1,5 @@
 use Rattle.commands.proofs.Renewed.{RenewRules, renewed_is_replayed, renewed_stays, renew_ends_as_replay}
-use Rattle.commands.proofs.renew_laws.renewed_is_replayed.Goals as goal
+use Rattle.commands.proofs.renew.renewed_is_replayed.Goals as goal
 
 pub returns : goal.returns
 returns c =

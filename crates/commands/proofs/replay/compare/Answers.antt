@@ -1,8 +1,8 @@
 use Rattle.std.proofs.Common.{sym, ◌∙◌}
 use Rattle.std.proofs.lemmas.Bool.{false≢true}
 use Rattle.std.proofs.lemmas.Result.{err_from_is_err_and}
-use Rattle.commands.specs.Replay.{at_entry, at_end}
-use Rattle.commands.proofs.replaying.compare.Goals as goal
+use Rattle.commands.specs.Recorded.{at_entry, at_end}
+use Rattle.commands.proofs.replay.compare.Goals as goal
 
 pub returns-in_err-reached-clause-differs : goal.returns-in_err-reached-clause-differs
 returns-in_err-reached-clause-differs g c =

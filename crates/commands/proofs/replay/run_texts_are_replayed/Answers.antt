@@ -1,5 +1,5 @@
 use Rattle.commands.proofs.Replayed.{Laws, run_texts_are_replayed, ticket_texts_are_replayed, interleave_texts_are_replayed, what_is_owed_is_replayed}
-use Rattle.commands.proofs.replay_laws.run_texts_are_replayed.Goals as goal
+use Rattle.commands.proofs.replay.run_texts_are_replayed.Goals as goal
 
 pub returns : goal.returns
 returns c =

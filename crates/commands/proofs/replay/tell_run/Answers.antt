@@ -1,19 +1,23 @@
-use Rattle.std.proofs.Common.{ℕ, length, ap, sym, ◌∙◌}
+use Rattle.std.proofs.Common.{ap, sym, length, ◌∙◌}
 use Rattle.std.proofs.lemmas.List.{length-map}
-use Rattle.std.proofs.lemmas.Result.{IfOk-weaker}
 use Rattle.action_eval.proofs.SharedRunner.{runner_sync}
-use Rattle.commands.specs.Answers.{agrees_with}
-use Rattle.commands.specs.Told.{of_agreeing, of_differing}
-use Rattle.commands.proofs.of_replay.tell_run.Goals as goal
+use Rattle.commands.specs.Recorded.{EntriesOutcome, agreeing, differing}
+use Rattle.commands.specs.Replay.{agrees_line}
+use Rattle.commands.proofs.OwedTexts.{ok_answers}
+use Rattle.commands.proofs.JournalLemmas.{IsAgreesLine}
+use Rattle.action_meaning.specs.Verdicts.{verdict_shown}
+use Rattle.commands.proofs.replay.tell_run.Goals as goal
 
 pub compare-requires-sync-D : goal.compare-requires-sync-D
 compare-requires-sync-D g c κs outlives = record { shared = runner_sync.shared }
 
 pub returns-in-Ok : goal.returns-in-Ok
 returns-in-Ok g c =
+    let form = g.E.EntryForm.form in
     let by = c.in-Ok.ensures.agrees in
-    let many = ap length (sym by.tells) ∙ length-map by.source g.E.EntryForm.form in
-    IfOk-weaker _ _ _ (λ answer is. of_agreeing by.source by.tells by.holds (is ∙ ap agrees_with many)) c.agree.ensures
+    let many = ap length (sym by.tells) ∙ length-map by.source form in
+    ok_answers (EntriesOutcome form (verdict_shown c.args.runner.now) c.args.start c.args.entries.now c.args.last.now IsAgreesLine) _ _ (agreeing by.source _ by.tells by.holds (ap agrees_line many)) c.agree.ensures
 
 pub returns-in-Err : goal.returns-in-Err
-returns-in-Err g c = IfOk-weaker _ _ _ (λ answer is. of_differing c.in-Err.differs.place c.in-Err.ensures.differs is) c.differ.ensures
+returns-in-Err g c =
+    ok_answers (EntriesOutcome g.E.EntryForm.form (verdict_shown c.args.runner.now) c.args.start c.args.entries.now c.args.last.now IsAgreesLine) _ _ (differing c.in-Err.differs.place c.in-Err.ensures.differs) c.differ.ensures

@@ -3,7 +3,7 @@ use Rattle.std.proofs.lemmas.Result.{IfOk-weaker}
 use Rattle.commands.specs.declared.answer.Telling.{Telling}
 use Rattle.commands.specs.Answers.{IsCounted, TellsReport}
 use Rattle.commands.proofs.PreparedRuns.{report_told}
-use Rattle.commands.proofs.telling.tell.Goals as goal
+use Rattle.commands.proofs.report.tell.Goals as goal
 
 pub returns-in-Report : goal.returns-in-Report
 returns-in-Report c = IfOk-weaker _ _ _ (λ answer is. report_told c.in-Report.version c.args.runner.now c.args.lists.now c.args.report c.args.telling answer c.in-Report.is is) c.tell_report.ensures

@@ -1,23 +1,30 @@
 use Rattle.std.proofs.Common.{Some, ap, sym, ◌∙◌, arith}
-use Rattle.std.proofs.lemmas.Result.{IfOk-weaker}
+use Rattle.action_eval.proofs.SharedRunner.{runner_sync}
 use Rattle.shape_files.specs.Views.{contents}
-use Rattle.commands.specs.declared.words.DocumentCommand.TheVariants.{Rewind}
-use Rattle.commands.specs.Answers.{refused_with}
-use Rattle.commands.proofs.OwedTexts.{record_of, same_answer}
-use Rattle.commands.proofs.RewindLemmas.{has_no_place, tells_back}
-use Rattle.commands.proofs.of_rewind.answer_rewind.Goals as goal
+use Rattle.commands.specs.Rewind.{RewindOutcome, no_place, not_unwound, unwound}
+use Rattle.commands.proofs.OwedTexts.{ok_answers, record_of, refused_with}
+use Rattle.commands.proofs.rewind.answer_rewind.Goals as goal
+
+pub unwind-requires-sync-D : goal.unwind-requires-sync-D
+unwind-requires-sync-D c κs = record { shared = runner_sync.shared }
 
 pub returns-then-place-entries : goal.returns-then-place-entries
 returns-then-place-entries c =
     let a = contents c.args.parts in
-    let d = record_of a c.recorded_in-runner.result.runner c.recorded_in-runner.result.start c.recorded_in-runner.result.last c.recorded_in-runner.ensures.program c.recorded_in-runner.ensures.start c.recorded_in-runner.ensures.last in
-    let its_journal = c.recorded_in-runner.ensures.entries ∙ sym c.full.ensures ∙ c.unwrap-full.ensures ∙ ap Some (sym c.entries-entries.ensures) in
-    IfOk-weaker _ _ _ (λ answer is. same_answer (Rewind c.args.place) a answer _ (is ∙ ap refused_with c.bad_place.ensures)
-    (has_no_place a d c.entries-entries.result.now c.args.place its_journal (omega arith))) c.refuse.ensures
+    let r = c.recorded_in-runner in
+    let its_journal = r.ensures.entries ∙ sym c.full.ensures ∙ c.unwrap-full.ensures ∙ ap Some (sym c.entries-entries.ensures) in
+    ok_answers (RewindOutcome a c.args.place) _ _ (no_place (record_of a r.result r.ensures) c.entries-entries.result.now its_journal (omega arith)) (refused_with _ _ _ c.bad_place.ensures c.refuse.ensures)
+
+pub returns-in-Ok : goal.returns-in-Ok
+returns-in-Ok c =
+    let a = contents c.args.parts in
+    let r = c.recorded_in-runner in
+    let its_journal = r.ensures.entries ∙ sym c.full.ensures ∙ c.unwrap-full.ensures ∙ ap Some (sym c.entries-entries.ensures) in
+    ok_answers (RewindOutcome a c.args.place) _ _ (unwound (record_of a r.result r.ensures) c.entries-entries.result.now c.in-Ok.shape its_journal (omega arith) c.in-Ok.ensures.back) c.show_shape.ensures
 
 pub returns : goal.returns
 returns c =
     let a = contents c.args.parts in
-    let d = record_of a c.recorded_in-runner.result.runner c.recorded_in-runner.result.start c.recorded_in-runner.result.last c.recorded_in-runner.ensures.program c.recorded_in-runner.ensures.start c.recorded_in-runner.ensures.last in
-    let its_journal = c.recorded_in-runner.ensures.entries ∙ sym c.full.ensures ∙ c.unwrap-full.ensures ∙ ap Some (sym c.entries-entries.ensures) in
-    IfOk-weaker _ _ _ (λ answer told. tells_back a d c.entries-entries.result.now c.args.place its_journal answer (omega arith) told) c.rewind_to.ensures
+    let r = c.recorded_in-runner in
+    let its_journal = r.ensures.entries ∙ sym c.full.ensures ∙ c.unwrap-full.ensures ∙ ap Some (sym c.entries-entries.ensures) in
+    ok_answers (RewindOutcome a c.args.place) _ _ (not_unwound (record_of a r.result r.ensures) c.entries-entries.result.now c.in-Err.differs.place its_journal (omega arith) c.in-Err.ensures.differs) c.differ.ensures

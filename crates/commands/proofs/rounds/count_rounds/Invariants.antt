@@ -1,6 +1,6 @@
 use Rattle.std.proofs.Common.{◌≡◌, length}
 use Rattle.commands.proofs.ToldEntries.{MeteredIn}
-use Rattle.commands.proofs.counting.count_rounds.Given as goal
+use Rattle.commands.proofs.rounds.count_rounds.Given as goal
 
 abbrev pub invariant-loop-told : goal.invariant-loop-told
 invariant-loop-told g l = record {

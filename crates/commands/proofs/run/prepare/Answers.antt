@@ -4,7 +4,7 @@ use Rattle.commands.specs.declared.answer.Maker.TheVariants as maker
 use Rattle.commands.specs.declared.answer.Telling.TheVariants as telling
 use Rattle.commands.proofs.OwedTexts.{are_there}
 use Rattle.commands.proofs.PreparedRuns.{prepares}
-use Rattle.commands.proofs.of_run.prepare.Goals as goal
+use Rattle.commands.proofs.run.prepare.Goals as goal
 
 pub returns : goal.returns
 returns c = λ bytes h. prepares c.one_list_is_serial.ensures (contents c.args.parts) bytes

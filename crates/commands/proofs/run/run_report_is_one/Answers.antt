@@ -1,6 +1,6 @@
 use Rattle.commands.specs.ReportLaws.{SameReport}
 use Rattle.commands.proofs.Reported.{same_text}
-use Rattle.commands.proofs.laws.run_report_is_one.Goals as goal
+use Rattle.commands.proofs.run.run_report_is_one.Goals as goal
 
 pub returns : goal.returns
 returns c = λ f start lists one two version vars few x y.

@@ -4,7 +4,7 @@ use Rattle.run_sample.specs.Whole.{IsSample}
 use Rattle.commands.specs.declared.answer.Maker.TheVariants as maker
 use Rattle.commands.specs.declared.answer.Telling.TheVariants as telling
 use Rattle.commands.proofs.PreparedRuns.{prepares_sample}
-use Rattle.commands.proofs.of_sample.prepare_sample.Goals as goal
+use Rattle.commands.proofs.sample.prepare_sample.Goals as goal
 
 pub returns : goal.returns
 returns c = prepares_sample c.sample_is_fit.ensures c.good_is_few.ensures c.args.seed

@@ -1,5 +1,5 @@
 use Rattle.action_eval.proofs.SharedRunner.{runner_sync}
-use Rattle.commands.proofs.telling.tell_sample.Goals as goal
+use Rattle.commands.proofs.sample.tell_sample.Goals as goal
 
 pub print_sample-requires-sync-D : goal.print_sample-requires-sync-D
 print_sample-requires-sync-D c κs = record { shared = runner_sync.shared }

@@ -6,7 +6,7 @@ use Rattle.clap.proofs.WalkLemmas.{list_any-map}
 use Rattle.commands.specs.declared.words.Command.{Command}
 use Rattle.commands.specs.Syntax.{begins_with_dash}
 use Rattle.commands.proofs.CommandLemmas.{dash_is_none, is_command, is_none}
-use Rattle.commands.proofs.command.command_of.Goals as goal
+use Rattle.commands.proofs.words.command_of.Goals as goal
 
 pub returns-then-any_begins_with_dash-clause-command : goal.returns-then-any_begins_with_dash-clause-command
 returns-then-any_begins_with_dash-clause-command c = sym (dash_is_none (map string_bytes c.args.words.now) (sym (list_any-map begins_with_dash string_bytes c.args.words.now) ∙ sym c.any_begins_with_dash.ensures ∙ c.if-any_begins_with_dash.true))

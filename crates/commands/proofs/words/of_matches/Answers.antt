@@ -6,7 +6,7 @@ use Rattle.clap.specs.Simple.{subcommand_rows}
 use Rattle.clap.specs.declared.parser.matches.SubCommand.{SubCommand}
 use Rattle.clap.specs.declared.parser.matches.ArgMatches.TheViews.{out-ArgMatches, out-SubCommand}
 use Rattle.commands.specs.Syntax.{of_subcommand}
-use Rattle.commands.proofs.command.of_matches.Goals as goal
+use Rattle.commands.proofs.words.of_matches.Goals as goal
 
 -- a name and the rows of a subcommand
 are_both : {Z : Type 0} (o : Option (Box SubCommand Z)) (word : Text) (rows : List Row) → Some word ≡ option_map (λ b. (out-SubCommand (box_value b)).name.now) o

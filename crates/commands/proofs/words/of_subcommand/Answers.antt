@@ -1,6 +1,6 @@
 use Rattle.std.proofs.Common.{codes}
 use Rattle.commands.proofs.WordsLemmas.{other_word}
-use Rattle.commands.proofs.command.of_subcommand.Goals as goal
+use Rattle.commands.proofs.words.of_subcommand.Goals as goal
 
 pub returns-in_default : goal.returns-in_default
 returns-in_default c =
