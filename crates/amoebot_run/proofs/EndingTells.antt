@@ -1,5 +1,5 @@
 -- What the ending of a call comes to.
-use Rattle.std.proofs.Common.{◌≡◌, ◌≤◌, ℕ, List, length, Option, Some, None, inl, inr, refl, sym, subst}
+use Rattle.std.proofs.Common.{◌≡◌, ◌≤◌, ℕ, List, length, Option, None, inl, inr, refl, sym, subst}
 use Rattle.claim_core.specs.declared.report.Report.{Report}
 use Rattle.commands.specs.declared.words.Command.{Command}
 use Rattle.commands.specs.declared.status.Status.{Status}

@@ -27,9 +27,6 @@ use Rattle.amoebot_run.specs.declared.ended.Ended.{Ended}
 use Rattle.amoebot_run.specs.Clauses.{WroteAll, WroteFront}
 use Rattle.amoebot_run.specs.Endings.{IsEnding, written, cut, wanting, IsReadWithinLimit, IsAnswered, IsOutsideFault, IsUnwritten, IsServed, IsReportOfCall, of_document, of_sample}
 use Rattle.amoebot_run.specs.Parts.{IsEndOfWriting, all, front}
-use Rattle.commands.specs.Recorded.{agreeing, differing}
-use Rattle.commands.specs.Rewind.{no_place, unwound, not_unwound}
-use Rattle.commands.specs.Elect.{no_erosion, not_ready}
 use Rattle.commands.proofs.Outcomes.{served_status, done, refused_as, differs_at}
 
 -- ---- how a call ended, from what was written

@@ -23,6 +23,7 @@ use Rattle.amoebot_run.specs.declared.begin.Begun.{Begun}
 use Rattle.amoebot_run.specs.declared.begin.Begun.TheVariants as begun
 use Rattle.amoebot_run.specs.declared.ended.Ended.{Ended}
 use Rattle.amoebot_run.specs.declared.making.Made.{Made}
+use Rattle.amoebot_run.specs.declared.making.MadeTurns.{MadeTurns}
 use Rattle.amoebot_run.specs.Clauses.{WroteAll, WroteFront}
 use Rattle.amoebot_run.specs.Endings.{IsEnding, wanting, IsReadWithinLimit}
 use Rattle.amoebot_run.specs.Parts.{IsEndOfWriting, IsBegun, has_ended, is_to_run, IsMade, IsEndedRun, told, untold, journal_turns, ticket_turns}
@@ -91,11 +92,11 @@ module _ {command : Option Command} {Reads : Read → Type 0} {Writes Cuts : Lis
 -- ---- the last part
 
 -- the text of an answer that tells the report was written
-pub told_by : {K : Type 0} {sink : SinkOf K} {old new : K} (t : Telling) (p : Program) (lists : CallerLists) (made : Made) (answer : Answer) (ended : Ended)
-    → TellsReport t p lists made.report answer → IsEndOfWriting sink old new answer.status answer.report (journal_turns made.turns) (ticket_turns made.turns) answer.text ended
+pub told_by : {K : Type 0} {sink : SinkOf K} {old new : K} (t : Telling) (p : Program) (lists : CallerLists) (made : Made) (turns : MadeTurns) (answer : Answer) (ended : Ended) → made.turns ≡ turns
+    → TellsReport t p lists made.report answer → IsEndOfWriting sink old new answer.status answer.report (journal_turns turns) (ticket_turns turns) answer.text ended
     → IsEndedRun sink old new (Tells t p lists made.report) made ended
-told_by {sink = sink} {old = old} {new = new} t p lists made answer ended is writes =
-    told answer.text ended is.text (subst (λ (z : Status × Option Report). IsEndOfWriting sink old new z.0 z.1 (journal_turns made.turns) (ticket_turns made.turns) answer.text ended) (λ i. (is.done i, is.its_report i)) writes)
+told_by {sink = sink} {old = old} {new = new} t p lists made turns answer ended same is writes =
+    told answer.text ended is.text (subst (λ (z : (Status × Option Report) × MadeTurns). IsEndOfWriting sink old new z.0.0 z.0.1 (journal_turns z.1) (ticket_turns z.1) answer.text ended) (λ i. ((is.done i, is.its_report i), sym same i)) writes)
 
 pub untold_by : {K : Type 0} {sink : SinkOf K} {old new : K} (Text : List ℕ → Type 0) (made : Made) (ended : Ended)
     → new ≡ old → ended ≡ record { status = status.NoMemory; report = None; turns = None; tickets = None } → IsEndedRun sink old new Text made ended

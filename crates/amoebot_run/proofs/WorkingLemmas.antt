@@ -14,7 +14,6 @@ use Rattle.commands.specs.declared.status.Status.TheVariants as status
 use Rattle.commands.specs.Answers.{turn_maker}
 use Rattle.commands.specs.Commands.{AreTickets, AreWorkers, HaveWorkers, IsTicketed, IsWorked, NeedsWorkers, TurnMaker, maker_of, no_maker, the_schedule, the_workers, the_tickets}
 use Rattle.amoebot_run.specs.declared.ended.Ended.{Ended}
-use Rattle.amoebot_run.specs.declared.making.Made.{Made}
 use Rattle.amoebot_run.specs.declared.making.MadeTurns.{MadeTurns}
 use Rattle.amoebot_run.specs.declared.making.MadeTurns.TheVariants as turned
 use Rattle.amoebot_run.specs.Parts.{HasTold, IsEndOfWriting, all, front, journal_turns, ticket_turns}

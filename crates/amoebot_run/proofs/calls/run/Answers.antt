@@ -1,6 +1,6 @@
 use Rattle.std.proofs.Common.{◌≤◌, length, subst, sym}
 use Rattle.commands.specs.Commands.{limit_for}
-use Rattle.amoebot_run.proofs.Endings.{reported, told, one, one_unread, serves, served_unread, six_lines_written, no_command, no_command_at, at_read_fault, at_write_fault, without_memory}
+use Rattle.amoebot_run.proofs.Endings.{told, serves}
 use Rattle.amoebot_run.proofs.EndingTells.{ending_tells}
 use Rattle.amoebot_run.proofs.Fronts.{reads_all}
 use Rattle.amoebot_run.proofs.Parts.{ended_of, its_turns, ready_of, finished, finished_turns, from_first, unworked}

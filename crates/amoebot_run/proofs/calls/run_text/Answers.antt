@@ -1,7 +1,7 @@
 use Rattle.std.proofs.Common.{ap, Some, inl, inr, refl, sym, ◌∙◌}
 use Rattle.amoebot_run.proofs.EndingTells.{tells_in_memory, tells_without}
 use Rattle.amoebot_run.proofs.Endings.{ending_maps, without}
-use Rattle.amoebot_run.proofs.InMemory.{not_risen, reading_of, has_text, memory_alone, unwritten_alone, answered_maps, told_maps}
+use Rattle.amoebot_run.proofs.InMemory.{not_risen, reading_of, has_text, memory_alone, told_maps}
 use Rattle.amoebot_run.proofs.WorkingLemmas.{without_turns}
 use Rattle.commands.specs.Reads.{nothing}
 use Rattle.amoebot_run.proofs.calls.run_text.Goals as goal
