@@ -22,7 +22,7 @@ use Rattle.claim_core.specs.declared.marks.Mark.TheVariants as mark
 use Rattle.claim_core.specs.declared.state.Phase.{Phase}
 use Rattle.claim_core.specs.declared.state.Phase.TheVariants.{Claim, Refusing, Looking, Taking, Committing, Releasing, Ended}
 use Rattle.claim_core.specs.declared.state.Caller.{Caller}
-use Rattle.claim_core.specs.Good.{Order, TurnOk, AreMarks, AreMarksSoFar, place_of, place_after}
+use Rattle.claim_core.specs.Good.{Order, TurnOk, AllTurns, AreMarks, SoFar, place_of, place_after}
 use Rattle.claim_core.specs.Cells.{number, at, values_of}
 use Rattle.claim_core.specs.Machine.{Setup, State, after}
 use Rattle.claim_core.specs.Soundness.{IsTurn, HasFront, TurnOkSoFar, Sound, marks_so_far, marked, names}
@@ -94,7 +94,7 @@ module _ (g : Setup) (s : State) (sound : Sound g s) (free : (c : ℕ) (k : Call
     },
   )
 
-  pub are_marks_so_far : AreMarksSoFar g.verdict g.world g.lists s.journal (marks_so_far g s)
+  pub are_marks_so_far : AreMarks SoFar g.verdict g.world g.lists s.journal (marks_so_far g s)
   are_marks_so_far = record {
     callers = length-map s.callers (λ (k : Caller). k.marks) ∙ sound.callers;
     turns = each_marks s (λ own. length own ≤ g.lists.turns) (λ c k there. let is = sound.each c k there in let few = at_most g.lists.turns k.turn k.phase is.turn in omega (arith, few, is.counted));
@@ -113,7 +113,7 @@ module _ (g : Setup) (s : State) (sound : Sound g s) (ended : HaveEnded s) where
       let e = has_ended c k there in
       is.counted ∙ ap (λ p. marked p k.turn) e ∙ subst (λ p. IsTurn g.lists.turns p k.turn) e is.turn
 
-  pub are_marks : AreMarks g.verdict g.world g.lists s.journal (marks_so_far g s)
+  pub are_marks : AreMarks AllTurns g.verdict g.world g.lists s.journal (marks_so_far g s)
   are_marks =
       let so_far = are_marks_so_far g s sound (λ c k there. subst (HasFront g s sound.last c k) (has_ended c k there) (sound.each c k there).front) in
       record { callers = so_far.callers; turns = each_marks s (λ own. length own ≡ g.lists.turns) all_marked; right = so_far.right; committed = so_far.committed; rising = so_far.rising }
@@ -130,7 +130,7 @@ reached_is_good g ok report reached =
       first = is.first;
       run = subst (λ (z : List Entry × Config). Run g.verdict g.world z.0 z.1) (λ i. (sym is.entries i, sym world i)) sound.run;
       order = subst (Order g.lists) (sym is.entries) sound.order;
-      marks = subst (λ (z : List Entry × Rattle.claim_core.specs.Turns.MarkLists). AreMarks g.verdict g.world g.lists z.0 z.1) (λ i. (sym is.entries i, sym is.marks i)) marks;
+      marks = subst (λ (z : List Entry × Rattle.claim_core.specs.Turns.MarkLists). AreMarks AllTurns g.verdict g.world g.lists z.0 z.1) (λ i. (sym is.entries i, sym is.marks i)) marks;
     }
 
 -- the step at a place of a run

@@ -82,26 +82,22 @@ TurnOk f first lists entries marks caller turn (mark.Busy cell by_caller by_turn
     HasInZone f first entries place (bot_of_turn lists caller turn) cell
     × MayHold f first lists entries marks caller cell by_caller by_turn by_bot
 
--- each turn of each caller has one mark, which is right, and each entry is its turn's; along the turns of one caller places
--- never fall, and a later one is above the own entry. So a later turn sees all that its caller committed
-pub record AreMarks (f : Shown → Verdict) (first : Config) (lists : CallerLists) (entries : List Entry)
-    (marks : MarkLists) : Type 0 where
-  pub callers : length marks.marks ≡ length lists.ids
-  pub turns : All (λ own. length own ≡ lists.turns) marks.marks
-  pub right : (caller turn : ℕ) (m : Mark)
-      → mark_of_turn marks caller turn ≡ Some m
-      → TurnOk f first lists entries marks caller turn m
-  pub committed : (place : ℕ) (e : Entry)
-      → slice_get entries place ≡ Some e
-      → mark_of_turn marks e.caller e.turn ≡ Some (mark.Done place)
-  pub rising : All (AllPairs (λ one later. place_after one ≤ place_of later)) marks.marks
+-- Of how many turns of a caller there are marks, beside how many turns its list has.
+-- That is of all of them, or of the first ones, which the caller made so far.
+abbrev pub AllTurns : ℕ → ℕ → Type 0
+AllTurns marked turns = marked ≡ turns
 
--- the same of the turns that callers have made so far, of each caller the first ones: each mark is right, Busy included, each entry is
--- its turn's, and places never fall
-pub record AreMarksSoFar (f : Shown → Verdict) (first : Config) (lists : CallerLists) (entries : List Entry)
-    (marks : MarkLists) : Type 0 where
+abbrev pub SoFar : ℕ → ℕ → Type 0
+SoFar marked turns = marked ≤ turns
+
+-- So many turns of each caller have one mark each, which is right, Busy included.
+-- Each entry is its turn's.
+-- Along the turns of one caller places never fall, and a later one is above the own entry.
+-- So a later turn sees all that its caller committed.
+pub record AreMarks (has_marks : ℕ → ℕ → Type 0) (f : Shown → Verdict) (first : Config) (lists : CallerLists)
+    (entries : List Entry) (marks : MarkLists) : Type 0 where
   pub callers : length marks.marks ≡ length lists.ids
-  pub turns : All (λ own. length own ≤ lists.turns) marks.marks
+  pub turns : All (λ own. has_marks (length own) lists.turns) marks.marks
   pub right : (caller turn : ℕ) (m : Mark)
       → mark_of_turn marks caller turn ≡ Some m
       → TurnOk f first lists entries marks caller turn m
@@ -117,4 +113,4 @@ pub record Good (f : Shown → Verdict) (w0 : Config) (lists : CallerLists) (rep
   pub first : report.journal.first ≡ w0
   pub run : Run f w0 report.journal.entries report.world
   pub order : Order lists report.journal.entries
-  pub marks : AreMarks f w0 lists report.journal.entries report.turns
+  pub marks : AreMarks AllTurns f w0 lists report.journal.entries report.turns

@@ -13,7 +13,7 @@ use Rattle.claim_core.specs.declared.marks.Mark.{Mark}
 use Rattle.claim_core.specs.declared.state.Caller.{Caller}
 use Rattle.claim_core.specs.declared.state.Phase.TheVariants.{Ended}
 use Rattle.claim_core.specs.Turns.{Kept}
-use Rattle.claim_core.specs.Good.{Order, AreMarksSoFar}
+use Rattle.claim_core.specs.Good.{Order, AreMarks, SoFar}
 use Rattle.claim_core.specs.Machine.{Setup, State}
 use Rattle.claim_core.specs.Reached.{Reached, HaveEnded, IsReportOf}
 use Rattle.claim_core.specs.Soundness.{IsSetup, Sound}
@@ -106,7 +106,7 @@ module _ {D : Type 0} (verdict : D → Shown → Verdict) (z : Terms D) (way : C
   ends_right = record {
     run = is_run verdict z way seats world journal ok ends;
     order = is_order verdict z way seats world journal ok ends;
-    marks = subst (λ (q : List Entry × List (List Mark)). AreMarksSoFar its_setup.verdict z.world z.lists q.0 (record { turns = z.lists.turns; marks = q.1 }))
+    marks = subst (λ (q : List Entry × List (List Mark)). AreMarks SoFar its_setup.verdict z.world z.lists q.0 (record { turns = z.lists.turns; marks = q.1 }))
         (λ i. (sym ends.entries i, sym (marks_are verdict z way seats world journal ok ends count full) i)) (are_marks_so_far its_setup its its_sound free);
   }
 

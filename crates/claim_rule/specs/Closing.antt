@@ -10,7 +10,7 @@ use Rattle.amoebot_state.specs.Zones.{Shown}
 use Rattle.claim_core.specs.declared.marks.Mark.{Mark}
 use Rattle.claim_core.specs.declared.report.Report.{Report}
 use Rattle.claim_core.specs.Turns.{Kept}
-use Rattle.claim_core.specs.Good.{Order, AreMarksSoFar}
+use Rattle.claim_core.specs.Good.{Order, AreMarks, SoFar}
 use Rattle.claim_core.specs.Reached.{HasValues}
 use Rattle.claim_rule.specs.declared.views.Terms.{Terms}
 use Rattle.claim_rule.specs.Views.{setup_of_terms}
@@ -59,4 +59,4 @@ pub record EndsRight {D : Type 0} (verdict : D → Shown → Verdict) (z : Terms
     (seats : List (Option (Token D))) (world : Config) (journal : Kept) : Type 0 where
   pub run : Run (verdict z.decider) z.world journal.entries world
   pub order : Order z.lists journal.entries
-  pub marks : AreMarksSoFar (verdict z.decider) z.world z.lists journal.entries (report_of z seats world journal).turns
+  pub marks : AreMarks SoFar (verdict z.decider) z.world z.lists journal.entries (report_of z seats world journal).turns

@@ -9,48 +9,9 @@ use crate::field::Field;
 use crate::freeing::Freeing;
 use crate::held::Held;
 use crate::manner::{ByJournal, Manner};
+use crate::placed::Seen;
 use amoebot_state::{Decider, Found};
-use std::marker::{Model, PhantomData};
-
-/// The length of the journal that a turn saw with its whole zone held.
-#[derive(Drop)]
-pub struct Seen<W = ByJournal> {
-    caller: u8,
-    turn: u32,
-    place: u32,
-    of: PhantomData<W>,
-}
-
-impl<W> Model for Seen<W> {
-    ghost use Rattle.claim_rule.specs.Tokens.{PlacedTurn};
-
-    ghost Value = { PlacedTurn };
-
-    ghost view = { λ s. record { caller = s.caller; turn = s.turn; place = s.place } };
-}
-
-impl<W> Seen<W> {
-    /// The caller whose turn it was, by the number of its list, from 0 on.
-    pub fn caller(&self) -> u8
-        ensures { result ≡ self.now.caller }
-    {
-        self.caller
-    }
-
-    /// Its number among the caller's turns, from 0 on.
-    pub fn turn(&self) -> u32
-        ensures { result ≡ self.now.turn }
-    {
-        self.turn
-    }
-
-    /// The number of entries that the journal had.
-    pub fn place(&self) -> u32
-        ensures { result ≡ self.now.place }
-    {
-        self.place
-    }
-}
+use std::marker::Model;
 
 /// A caller that holds the whole zone of its turn's amoebot. Its turn has no mark until it was looked at.
 #[derive(Drop)]
@@ -105,12 +66,7 @@ pub fn look<D: Decider, W: Manner>(claimed: &mut Claimed<D, W>, field: &Field<'_
     let place = field.place(&mut activation.seat);
     let room = &mut *activation.room;
     room.after = place;
-    Seen {
-        caller: room.caller,
-        turn: room.turn,
-        place,
-        of: PhantomData,
-    }
+    Seen::new(room.caller, room.turn, place)
 }
 
 /// The turn has its mark, and its cells are to be freed. There is one at least, the own body.

@@ -5,9 +5,9 @@ ghost use Rattle.claim_rule.specs.Settling.{HasStored, IsToTake};
 use crate::claimed::Claimed;
 use crate::field::Field;
 use crate::manner::ByTicket;
-use crate::settled::{Receipt, Settled};
+use crate::placed::Receipt;
+use crate::settled::Settled;
 use amoebot_state::{Change, Decider};
-use std::marker::PhantomData;
 
 /// The commit of the change that was decided on what the claim found, one step: it draws its place, and the cells that are held have the
 /// values of the patch. The caller keeps the turn's entry, with the place in the receipt.
@@ -26,11 +26,6 @@ pub fn draw<D: Decider>(
     let room = &mut *activation.room;
     room.settle();
     room.after = place + 1;
-    let receipt = Receipt {
-        caller: room.caller,
-        turn: room.turn,
-        place,
-        of: PhantomData,
-    };
+    let receipt = Receipt::new(room.caller, room.turn, place);
     (Settled { activation }, receipt)
 }

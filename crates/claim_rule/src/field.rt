@@ -1,9 +1,11 @@
 //! The table that callers share. It is private to this module and those in it, so no other code touches a word or a slot.
 //! It is laid out and given back here.
 //! `steps`, `nodes`, `slots` and `seating` have one function for each step on a word, each use of a slot, and each move of records.
-ghost use Rattle.std.specs.Prelude.{◌≡◌, ◌+◌, [], Some, IfOk};
+ghost use Rattle.std.specs.Prelude.{◌≡◌, ◌+◌, [], Some, IfOk, IsSome};
+ghost use Rattle.std.specs.List.{All};
 ghost use Rattle.std.specs.Slots.{slots_items, slots_len, IsFull};
 ghost use Rattle.atomic_table.specs.Table.{Final, Seen};
+ghost use Rattle.amoebot_state.specs.Configs.{bot_at};
 ghost use Rattle.amoebot_state.specs.Known.{is_wall_cell};
 ghost use Rattle.claim_core.specs.Cells.{number};
 ghost use Rattle.claim_core.specs.Soundness.{IsSetup};
@@ -20,7 +22,7 @@ mod steps;
 use crate::manner::{ByJournal, Manner};
 use crate::rule::ClaimRule;
 use crate::views::{Key, Slot, View};
-use amoebot_state::{CellName, Decider, NoMemory, World};
+use amoebot_state::{CellName, Decider, NoMemory, World, has_next, touches_zone};
 use atomic_table::{Closed, Seat as TableSeat, Table};
 use claim_core::Lists;
 use std::alloc::Global;
@@ -88,12 +90,16 @@ impl<'d, D: Decider, W: Manner> Field<'d, D, W> {
         words: Vec<u64>,
         slots: Vec<Slot>,
     ) -> Result<(Field<'d, D, W>, TableSeat<Slot, View<D>>), NoMemory>
-        requires run { IsSetup (setup_of_terms D.verdict (field_terms decider.now world lists.now)) }
+        requires bots { All (All (λ id. IsSome (bot_at world id))) lists.now.ids }
         requires words { words.items ≡ first_words W.way world }
         requires slots { AreSlotsAtFirst W.way world lists.now slots.items }
         ensures terms { IfOk result (λ made. made.0.terms ≡ field_terms decider.now world lists.now) }
         ensures seat { IfOk result (λ made. (made.1.table_id ≡ made.0.table) × (made.1.me ≡ (first_view D.verdict made.0.terms, []))) }
     {
+        world.keeps();
+        touches_zone(decider);
+        has_next(decider);
+        let _callers = lists.callers();
         let key = Key {
             decider,
             world,

@@ -1,10 +1,10 @@
-ghost use Rattle.std.specs.Prelude.{◌≡◌, ◌<◌, ◌≤◌, length, true, Some, IfOk, IfErr};
+ghost use Rattle.std.specs.Prelude.{◌≡◌, ◌<◌, ◌≤◌, length, Some, IfOk, IfErr};
 ghost use Rattle.amoebot_state.specs.declared.cell.Cell.{Cell};
 ghost use Rattle.amoebot_state.specs.declared.cell.CellName.TheVariants as name;
 ghost use Rattle.amoebot_state.specs.Limits.{most_cells};
 ghost use Rattle.claim_core.specs.declared.state.Phase.TheVariants.{Refusing};
 ghost use Rattle.claim_core.specs.Machine.{caller_with_cell};
-ghost use Rattle.claim_rule.specs.Manners.{by_journal, has_slot};
+ghost use Rattle.claim_rule.specs.Manners.{by_journal};
 ghost use Rattle.claim_rule.specs.Plays.{IsOthers, about, bot_in};
 ghost use Rattle.claim_rule.specs.Tokens.{IsOf, number_in, doing, goes, next_in};
 
@@ -88,29 +88,12 @@ pub fn win<D: Decider, W: Manner>(
     ensures refused { IfErr result (λ by. (by.0 ≡ goes held (record (doing held) { phase = Refusing cell by.1 }))
         × IsOthers (about D.verdict held.view) (number_in held) by.1) }
 {
-    if W::has_slot(cell) {
-        return win_plain(held, field, cell);
+    if !W::has_slot(cell) {
+        let CellName::Spot(node) = cell else {
+            unreachable!()
+        };
+        return win_node(held, field, node);
     }
-    let CellName::Spot(node) = cell else {
-        unreachable!()
-    };
-    win_node(held, field, node)
-}
-
-/// One try to claim a plain cell, which is the next one.
-fn win_plain<D: Decider, W: Manner>(
-    held: Held<D, W>,
-    field: &Field<'_, D, W>,
-    cell: CellName,
-) -> Result<Held<D, W>, (Stopped<D, W>, Tag)>
-    requires field { IsOf field.now held }
-    requires next { next_in D.verdict held ≡ Some cell }
-    requires plain { has_slot W.way cell ≡ true }
-    ensures won { IfOk result (λ more. (x : Cell)
-        × (more ≡ goes held (caller_with_cell (about D.verdict held.view) (number_in held) (doing held) cell x))) }
-    ensures refused { IfErr result (λ by. (by.0 ≡ goes held (record (doing held) { phase = Refusing cell by.1 }))
-        × IsOthers (about D.verdict held.view) (number_in held) by.1) }
-{
     let Held { mut activation } = held;
     let room = &*activation.room;
     let Some(number) = cell_number(&room.area, cell) else {

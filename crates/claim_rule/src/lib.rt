@@ -15,6 +15,7 @@ mod make;
 mod manner;
 mod node_steps;
 mod notes;
+mod placed;
 mod renewal;
 mod rule;
 mod seat;
@@ -26,7 +27,7 @@ mod taken;
 mod views;
 mod words;
 
-pub use claimed::{Claimed, Seen, look, seal, unseal};
+pub use claimed::{Claimed, look, seal, unseal};
 pub use drawing::draw;
 pub use field::Field;
 pub use freeing::{Freeing, end, free_last};
@@ -39,10 +40,11 @@ pub use laws::{
 };
 pub use manner::{ByJournal, ByTicket, Manner};
 pub use node_steps::{Noted, look_at, try_at};
+pub use placed::{Committed, Looked, Placed, Receipt, Seen};
 pub use rule::ClaimRule;
 pub use seat::Seat;
 pub use seats::Seats;
-pub use settled::{Receipt, Settled, unsettle};
+pub use settled::{Settled, unsettle};
 pub use step_laws::{
     claim_is_next, commit_is_next, draw_is_next, look_is_next, node_claim_is_next,
     node_look_is_next, node_release_is_next, release_is_next, take_is_next,

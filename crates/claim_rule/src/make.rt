@@ -17,7 +17,7 @@ use crate::seat::Seat;
 use crate::seats::Seats;
 use crate::views::{Slot, View};
 use crate::words::node_word;
-use amoebot_state::{Cell, Decider, NoMemory, World, has_next, touches_zone};
+use amoebot_state::{Cell, Decider, NoMemory, World};
 use atomic_table::Seat as TableSeat;
 use claim_core::{Journal, Lists, cells_of};
 use std::alloc::Global;
@@ -38,7 +38,9 @@ impl<'d, D: Decider> Field<'d, D> {
         ensures seats { IfOk result (λ made. made.1 ≡ first_seats D.verdict made.0) }
         ensures all { IfOk result (λ made. All (λ seat. IsSome seat) made.1.seats) }
     {
-        let (field, rest) = open(alloc, decider, world, lists)?;
+        let words = words_at_first(alloc, &world)?;
+        let slots = first_slots(alloc, &world, lists)?;
+        let (field, rest) = Field::lay_out(alloc, decider, world, lists, words, slots)?;
         let seats = deal_all(alloc, &field, rest, lists.callers())?;
         Ok((field, seats))
     }
@@ -59,50 +61,12 @@ impl<'d, D: Decider> Field<'d, D, ByTicket> {
         ensures seats { IfOk result (λ made. made.1 ≡ first_seats D.verdict made.0) }
         ensures all { IfOk result (λ made. All (λ seat. IsSome seat) made.1.seats) }
     {
-        let (field, rest) = open_tickets(alloc, decider, world, lists)?;
+        let words = ticket_words(alloc, &world)?;
+        let slots = ticket_slots(alloc, &world)?;
+        let (field, rest) = Field::lay_out(alloc, decider, world, lists, words, slots)?;
         let seats = deal_all(alloc, &field, rest, lists.callers())?;
         Ok((field, seats))
     }
-}
-
-/// A field with all records at one seat.
-fn open<'d, D: Decider>(
-    alloc: Global,
-    decider: &'d D,
-    world: World,
-    lists: &'d Lists,
-) -> Result<(Field<'d, D>, TableSeat<Slot, View<D>>), NoMemory>
-    requires bots { All (All (λ id. IsSome (bot_at world id))) lists.now.ids }
-    ensures terms { IfOk result (λ made. made.0.terms ≡ field_terms decider.now world lists.now) }
-    ensures seat { IfOk result (λ made. (made.1.table_id ≡ made.0.table) × (made.1.me ≡ (first_view D.verdict made.0.terms, []))) }
-{
-    world.keeps();
-    touches_zone(decider);
-    has_next(decider);
-    let _callers = lists.callers();
-    let words = words_at_first(alloc, &world)?;
-    let slots = first_slots(alloc, &world, lists)?;
-    Field::lay_out(alloc, decider, world, lists, words, slots)
-}
-
-/// A field whose commits draw their places, with all records at one seat.
-fn open_tickets<'d, D: Decider>(
-    alloc: Global,
-    decider: &'d D,
-    world: World,
-    lists: &'d Lists,
-) -> Result<(Field<'d, D, ByTicket>, TableSeat<Slot, View<D>>), NoMemory>
-    requires bots { All (All (λ id. IsSome (bot_at world id))) lists.now.ids }
-    ensures terms { IfOk result (λ made. made.0.terms ≡ field_terms decider.now world lists.now) }
-    ensures seat { IfOk result (λ made. (made.1.table_id ≡ made.0.table) × (made.1.me ≡ (first_view D.verdict made.0.terms, []))) }
-{
-    world.keeps();
-    touches_zone(decider);
-    has_next(decider);
-    let _callers = lists.callers();
-    let words = ticket_words(alloc, &world)?;
-    let slots = ticket_slots(alloc, &world)?;
-    Field::lay_out(alloc, decider, world, lists, words, slots)
 }
 
 /// Deals the records of all callers to seats.

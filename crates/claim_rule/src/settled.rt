@@ -5,47 +5,7 @@ use crate::activation::Activation;
 use crate::freeing::Freeing;
 use crate::manner::{ByJournal, Manner};
 use amoebot_state::Decider;
-use std::marker::{Model, PhantomData};
-
-/// The place in the journal of the entry that a turn committed.
-#[derive(Drop)]
-pub struct Receipt<W = ByJournal> {
-    pub(crate) caller: u8,
-    pub(crate) turn: u32,
-    pub(crate) place: u32,
-    pub(crate) of: PhantomData<W>,
-}
-
-impl<W> Model for Receipt<W> {
-    ghost use Rattle.claim_rule.specs.Tokens.{PlacedTurn};
-
-    ghost Value = { PlacedTurn };
-
-    ghost view = { λ r. record { caller = r.caller; turn = r.turn; place = r.place } };
-}
-
-impl<W> Receipt<W> {
-    /// The caller whose turn it was, by the number of its list, from 0 on.
-    pub fn caller(&self) -> u8
-        ensures { result ≡ self.now.caller }
-    {
-        self.caller
-    }
-
-    /// Its number among the caller's turns, from 0 on.
-    pub fn turn(&self) -> u32
-        ensures { result ≡ self.now.turn }
-    {
-        self.turn
-    }
-
-    /// The number of entries before the turn's own.
-    pub fn place(&self) -> u32
-        ensures { result ≡ self.now.place }
-    {
-        self.place
-    }
-}
+use std::marker::Model;
 
 /// A caller that has committed, and still holds the whole zone, with the values after the commit. Its turn has its mark.
 #[derive(Drop)]

@@ -9,9 +9,10 @@ use crate::activation::Activation;
 use crate::field::Field;
 use crate::freeing::Freeing;
 use crate::manner::{ByJournal, Manner};
+use crate::placed::Seen;
 use amoebot_state::{CellName, Decider};
 use claim_core::{tag_bot, tag_caller, tag_turn};
-use std::marker::{Model, PhantomData};
+use std::marker::Model;
 
 /// The tag that was found at a cell that another caller held.
 #[derive(Drop)]
@@ -56,30 +57,17 @@ impl Tag {
 /// What a turn is told whose zone had a cell that another caller held.
 #[derive(Drop)]
 pub struct Refused<W = ByJournal> {
-    caller: u8,
-    turn: u32,
+    seen: Seen<W>,
     cell: CellName,
-    by_caller: u8,
-    by_turn: u32,
-    by_bot: u16,
-    place: u32,
-    of: PhantomData<W>,
+    tag: Tag,
 }
 
 impl<W> Model for Refused<W> {
-    ghost use Rattle.claim_rule.specs.Tokens.{RefusedOf};
+    ghost use Rattle.claim_rule.specs.Tokens.{RefusedOf, refused_of};
 
     ghost Value = { RefusedOf };
 
-    ghost view = { λ r. record {
-      caller = r.caller;
-      turn = r.turn;
-      cell = r.cell;
-      by_caller = r.by_caller;
-      by_turn = r.by_turn;
-      by_bot = r.by_bot;
-      place = r.place;
-    } };
+    ghost view = { λ r. refused_of r.seen.caller r.seen.turn r.cell r.tag r.seen.place };
 }
 
 impl<W> Refused<W> {
@@ -87,14 +75,14 @@ impl<W> Refused<W> {
     pub fn caller(&self) -> u8
         ensures { result ≡ self.now.caller }
     {
-        self.caller
+        self.seen.caller()
     }
 
     /// Its turn.
     pub fn turn(&self) -> u32
         ensures { result ≡ self.now.turn }
     {
-        self.turn
+        self.seen.turn()
     }
 
     /// The cell that another caller held.
@@ -108,28 +96,28 @@ impl<W> Refused<W> {
     pub fn by_caller(&self) -> u8
         ensures { result ≡ self.now.by_caller }
     {
-        self.by_caller
+        self.tag.caller()
     }
 
     /// The turn for which it held the cell.
     pub fn by_turn(&self) -> u32
         ensures { result ≡ self.now.by_turn }
     {
-        self.by_turn
+        self.tag.turn()
     }
 
     /// The amoebot of that turn.
     pub fn by_bot(&self) -> u16
         ensures { result ≡ self.now.by_bot }
     {
-        self.by_bot
+        self.tag.bot()
     }
 
     /// The number of entries that the journal had after the refusal.
     pub fn place(&self) -> u32
         ensures { result ≡ self.now.place }
     {
-        self.place
+        self.seen.place()
     }
 }
 
@@ -168,15 +156,6 @@ pub fn refuse<D: Decider, W: Manner>(
     let place = field.place(&mut activation.seat);
     let room = &mut *activation.room;
     room.after = place;
-    let refused = Refused {
-        caller: room.caller,
-        turn: room.turn,
-        cell,
-        by_caller: tag.caller(),
-        by_turn: tag.turn(),
-        by_bot: tag.bot(),
-        place,
-        of: PhantomData,
-    };
-    (Freeing { activation }, refused)
+    let seen = Seen::new(room.caller, room.turn, place);
+    (Freeing { activation }, Refused { seen, cell, tag })
 }

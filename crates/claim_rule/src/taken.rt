@@ -9,9 +9,10 @@ ghost use Rattle.claim_rule.specs.Settling.{HasGot, HasStored, IsToTake};
 use crate::activation::Activation;
 use crate::claimed::Claimed;
 use crate::field::Field;
-use crate::settled::{Receipt, Settled};
+use crate::placed::Receipt;
+use crate::settled::Settled;
 use amoebot_state::{Change, Decider, Entry};
-use std::marker::{Model, PhantomData};
+use std::marker::Model;
 
 /// A caller that holds the whole zone of its turn's amoebot, and the journal, and commits its change next.
 #[derive(Drop)]
@@ -81,11 +82,6 @@ pub fn store<D: Decider>(taken: Taken<D>, field: &Field<'_, D>) -> (Settled<D>, 
     let room = &mut *activation.room;
     room.settle();
     room.after = place + 1;
-    let receipt = Receipt {
-        caller: room.caller,
-        turn: room.turn,
-        place,
-        of: PhantomData,
-    };
+    let receipt = Receipt::new(room.caller, room.turn, place);
     (Settled { activation }, receipt)
 }

@@ -25,7 +25,7 @@ use Rattle.claim_core.specs.declared.marks.Mark.{Mark}
 use Rattle.claim_core.specs.declared.marks.Mark.TheVariants as mark
 use Rattle.claim_core.specs.Limits.{most_callers, most_turns}
 use Rattle.claim_core.specs.Turns.{CallerLists, MarkLists, AreFew, HaveBots, bot_of_turn, list_of, marks_of}
-use Rattle.claim_core.specs.Good.{IsWorldAt, HasVerdict, HasInZone, TurnOk, AreMarks}
+use Rattle.claim_core.specs.Good.{IsWorldAt, HasVerdict, HasInZone, TurnOk, AllTurns, AreMarks}
 use Rattle.text_tokens.specs.Cursor.{IsShort}
 use Rattle.node_text.specs.Parts.{may_have_walls}
 use Rattle.journal_text.specs.Rereading.{IsWritableCell, IsWritableFailure, IsWritableMark, AreWritable}
@@ -120,7 +120,7 @@ module _ (f : Shown → Verdict) (start : Config) (lists : CallerLists) (entries
           at = place_short place held.0 held.1;
         }
 
-    module _ (are : AreMarks f start lists entries marks) where
+    module _ (are : AreMarks AllTurns f start lists entries marks) where
       own_writable : (caller : ℕ) (own : List Mark) → caller < length lists.ids → length own ≡ lists.turns → marks_of marks caller ≡ own → AreWritable version own
       own_writable caller own inside long is_own =
           let turns = turns_few caller inside in
@@ -132,5 +132,5 @@ module _ (f : Shown → Verdict) (start : Config) (lists : CallerLists) (entries
       pub marks_writable : All (AreWritable version) marks.marks
       marks_writable k d inside = own_writable k (get_or marks.marks k d) (let callers = are.callers in omega arith) (are.turns k d inside) (get_or_default marks.marks k [] d inside)
 
-  pub few_callers : AreMarks f start lists entries marks → length marks.marks ≤ most_callers
+  pub few_callers : AreMarks AllTurns f start lists entries marks → length marks.marks ≤ most_callers
   few_callers are = let callers = are.callers in let most = lists_few.at_most_16 in omega arith

@@ -107,7 +107,16 @@ fn makes_step<D: Decider, E: EntryForm>(
     ensures stays { OnFalse result (world.new ≡ world.old) }
     ensures size { length world.new.bots ≡ length world.old.bots }
 {
-    make_step_on(decider, world, told, found).is_some()
+    has_next(decider);
+    world.keeps();
+    let verdict = decider.decide(found);
+    match &verdict {
+        Verdict::Change(change) if told.tells(change) => {
+            world.apply(&change.patch);
+            true
+        }
+        Verdict::Change(_) | Verdict::Idle | Verdict::Failed(_) => false,
+    }
 }
 
 /// Makes the step of an entry in a form, if there is one, where this is what its amoebot is shown: the change that was decided.
@@ -151,7 +160,13 @@ pub fn told_on<D: Decider, E: EntryForm>(decider: &D, found: &Found, told: &E) -
         → D.verdict decider.now found.now ≢ Verdict.Change change) }
 {
     match decider.decide(found) {
-        Verdict::Change(change) if told.tells(&change) => Some(change),
-        Verdict::Change(_) | Verdict::Idle | Verdict::Failed(_) => None,
+        Verdict::Change(change) => {
+            if told.tells(&change) {
+                Some(change)
+            } else {
+                None
+            }
+        }
+        Verdict::Idle | Verdict::Failed(_) => None,
     }
 }

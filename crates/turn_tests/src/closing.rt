@@ -2,7 +2,7 @@ ghost use Rattle.std.specs.Prelude.{◌≡◌, ◌≤◌, length, map, is_some, 
 ghost use Rattle.std.specs.List.{All};
 ghost use Rattle.amoebot_state.specs.Configs.{bot_at};
 ghost use Rattle.amoebot_state.specs.Steps.{Run};
-ghost use Rattle.claim_core.specs.Good.{AreMarksSoFar, Order};
+ghost use Rattle.claim_core.specs.Good.{AreMarks, Order, SoFar};
 ghost use Rattle.claim_core.specs.Turns.{MarkLists};
 ghost use Rattle.claim_rule.specs.Seating.{AreOf};
 ghost use Rattle.claim_rule.specs.Tokens.{IsOf, number_in};
@@ -87,7 +87,7 @@ fn closed<R: Wait + Abort, D: Decider>(
     ensures run { IfOk result (λ left. let z = field.entry.terms in Run (D.verdict z.decider) z.world left.1.entries left.0) }
     ensures order { IfOk result (λ left. Order field.entry.terms.lists left.1.entries) }
     ensures marks { IfOk result (λ left. (marks : MarkLists) × (let z = field.entry.terms in
-        AreMarksSoFar (D.verdict z.decider) z.world z.lists left.1.entries marks)) }
+        AreMarks SoFar (D.verdict z.decider) z.world z.lists left.1.entries marks)) }
 {
     after_turns(rt, &field, lists, expected, &mut seats, callers)?;
     Ok(field.close(seats))
