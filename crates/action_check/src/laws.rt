@@ -19,7 +19,6 @@ pub fn rows_are_derived()
 
 /// Programs that are equal without their lines have the same faults, apart from lines;
 /// so both keep the rules, or neither does.
-#[tactic(auto, using(crate::proofs::Lineless::faults_ignore_lines, crate::proofs::Lineless::rules_ignore_lines))]
 pub fn faults_ignore_lines()
     ensures faults { FaultsIgnoreLines }
     ensures rules { RulesIgnoreLines }
