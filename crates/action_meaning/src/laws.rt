@@ -13,7 +13,7 @@ pub fn verdict_is_shown()
 
 /// Each change that a program decides is made by operations of the model,
 /// with the guard on or off as the program has it.
-#[tactic(auto, using(crate::proofs::Decided::programs_decide_by_acts, crate::proofs::Decided::guarded_programs_decide_guarded))]
+#[tactic(auto, using(crate::proofs::Decided::programs_decide_by_acts))]
 pub fn changes_are_acts()
     ensures acts { ProgramsDecideByActs }
     ensures guarded { GuardedProgramsDecideGuarded }
@@ -21,7 +21,7 @@ pub fn changes_are_acts()
 
 /// With the guard on, connected occupied nodes stay connected under each
 /// step and each run of a program.
-#[tactic(auto, using(crate::proofs::Decided::program_steps_stay_connected, crate::proofs::Decided::program_runs_stay_connected))]
+#[tactic(auto, using(crate::proofs::Decided::program_runs_stay_connected))]
 pub fn program_runs_stay_connected()
     ensures steps { ProgramStepsStayConnected }
     ensures runs { ProgramRunsStayConnected }
