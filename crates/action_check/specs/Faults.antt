@@ -1,5 +1,5 @@
--- What is wrong with the names and the numbers of a program: all faults of its tree, in the order of its text, each with
--- the line of the token that is to blame.
+-- What is wrong with the names and the numbers of a program: all faults of its tree,
+-- in the order of its text, each with the line of the token that is to blame.
 use Rattle.std.specs.Prelude.{◌≡◌, ℕ, ◌||◌, nat_le, List, [], ◌∷◌, ◌++◌, map, if◌then◌else◌}
 use Rattle.text_tokens.specs.declared.refusal.Refusal.{Refusal}
 use Rattle.text_tokens.specs.declared.refusal.RefusalKind.{RefusalKind}
@@ -86,7 +86,8 @@ abbrev mutual
   stmt_faults sc (put_of p v s) = port_faults sc p ++ (var_faults sc v ++ sum_faults sc s)
   stmt_faults sc (let_be v p) = binding_faults sc v ++ port_faults sc p
   stmt_faults sc (if_then g ss es) = guard_faults sc g ++ (stmts_faults sc ss ++ stmts_faults sc es)
-  stmt_faults sc (for_each v s g ss) = (binding_faults sc v ++ guard_faults (scope_with sc v) g) ++ stmts_faults (scope_with sc v) ss
+  stmt_faults sc (for_each v s g ss) =
+      (binding_faults sc v ++ guard_faults (scope_with sc v) g) ++ stmts_faults (scope_with sc v) ss
 
   pub stmts_faults : Scope → Stmts → List Refusal
   stmts_faults sc no_stmts = []
@@ -103,17 +104,21 @@ move_faults sc (contract e) = []
 abbrev pub vars_faults : List (List ℕ) → List Var → List Refusal
 vars_faults earlier [] = []
 vars_faults earlier (v ∷ vs) =
-    declared_faults earlier v.name ++ (range_faults most_value v.max ++ vars_faults (earlier ++ v.name.text ∷ []) vs)
+    declared_faults earlier v.name
+    ++ (range_faults most_value v.max ++ vars_faults (earlier ++ v.name.text ∷ []) vs)
 
--- of what stands behind the name of an action; the names that its statements bind are in force in its movement
+-- of what stands behind the name of an action; the names that its statements
+-- bind are in force in its movement
 abbrev pub action_faults : Scope → Action → List Refusal
-action_faults sc a = guard_faults sc a.guard ++ (stmts_faults sc a.body ++ move_faults (scope_after_all sc a.body) a.moved)
+action_faults sc a =
+    guard_faults sc a.guard ++ (stmts_faults sc a.body ++ move_faults (scope_after_all sc a.body) a.moved)
 
 -- of the actions behind those of these names
 abbrev pub actions_faults : Scope → List (List ℕ) → List Action → List Refusal
 actions_faults sc earlier [] = []
 actions_faults sc earlier (a ∷ more) =
-    declared_faults earlier a.name ++ (action_faults sc a ++ actions_faults sc (earlier ++ a.name.text ∷ []) more)
+    declared_faults earlier a.name
+    ++ (action_faults sc a ++ actions_faults sc (earlier ++ a.name.text ∷ []) more)
 
 abbrev pub names_of_actions : List Action → List (List ℕ)
 names_of_actions actions = map (λ a. a.name.text) actions

@@ -13,8 +13,8 @@ use Rattle.action_check.specs.Faults.{faults, AreRulesKept}
 use Rattle.action_check.specs.Rules.{ProgramKept}
 use Rattle.action_check.specs.Rows.{rows}
 
--- where nothing is wrong, each part is what an evaluation relies on; within the limits of the grammar, at most so many
--- names are in force
+-- where nothing is wrong, each part is what an evaluation relies on;
+-- within the limits of the grammar, at most so many names are in force
 abbrev pub FaultlessIsKept : Type 0
 FaultlessIsKept = (p : Program) → is_writable p ≡ true → AreRulesKept p → ProgramKept p
 
@@ -32,10 +32,12 @@ FaultsIgnoreLines =
 abbrev pub RulesIgnoreLines : Type 0
 RulesIgnoreLines = (p q : Program) → without_lines p ≡ without_lines q → AreRulesKept p → AreRulesKept q
 
--- the faults stand in the order of lines: where the lines of names and numbers never fall, those of the faults never do
+-- the faults stand in the order of lines: where the lines of names and numbers never fall,
+-- those of the faults never do
 abbrev pub FaultsFollowText : Type 0
 FaultsFollowText =
-    (p : Program) → IsNonDecreasing (lines_in_program p) → IsNonDecreasing (map (λ (r : Refusal). r.line) (faults p))
+    (p : Program) → IsNonDecreasing (lines_in_program p)
+    → IsNonDecreasing (map (λ (r : Refusal). r.line) (faults p))
 
 -- so it is with the faults of a program that bytes give
 abbrev pub FaultsOfTextNeverFall : Type 0

@@ -1,4 +1,5 @@
--- The greatest values of the variables, in the order of their declaration, and 0 for those that a program lacks.
+-- The greatest values of the variables, in the order of their declaration,
+-- and 0 for those that a program lacks.
 use Rattle.std.specs.Prelude.{ℕ, zero, suc, List, [], ◌∷◌, map}
 use Rattle.amoebot_state.specs.Limits.{most_vars}
 use Rattle.action_tree.specs.Trees.{Program}

@@ -1,5 +1,7 @@
--- What the rules on names and ranges say of each part of a program: every name is known and of its kind, at most so many
--- names are in force, and numbers are in their ranges. Each is what an evaluation of that part relies on.
+-- What the rules on names and ranges say of each part of a program:
+-- every name is known and of its kind, at most so many names are in force,
+-- and numbers are in their ranges.
+-- Each is what an evaluation of that part relies on.
 use Rattle.std.specs.Prelude.{◌≢◌, ◌<◌, ◌≤◌, ℕ, List, length}
 use Rattle.std.specs.List.{All, AllPairs, Contains}
 use Rattle.amoebot_state.specs.Limits.{most_value}
@@ -74,7 +76,8 @@ abbrev mutual
   StmtKept sc (put_of p v s) = PortKept sc p × IsVariable sc v × SumKept sc s
   StmtKept sc (let_be v p) = IsNew sc v × PortKept sc p
   StmtKept sc (if_then g ss es) = GuardKept sc g × StmtsKept sc ss × StmtsKept sc es
-  StmtKept sc (for_each v s g ss) = IsNew sc v × GuardKept (scope_with sc v) g × StmtsKept (scope_with sc v) ss
+  StmtKept sc (for_each v s g ss) =
+      IsNew sc v × GuardKept (scope_with sc v) g × StmtsKept (scope_with sc v) ss
 
   pub StmtsKept : Scope → Stmts → Type 0
   StmtsKept sc no_stmts = Unit {0}

@@ -19,7 +19,8 @@ texts names = map (λ name. name.bytes) names
 abbrev pub known_scope : code.Scope → Scope
 known_scope sc = record { vars = texts sc.vars.now.keys; bound = texts sc.bound.items }
 
--- why a program is refused: the first of these faults, or that there was no memory, which says nothing
+-- why a program is refused: the first of these faults, or that there was no memory,
+-- which says nothing
 abbrev pub TellsFirst : List Refusal → ReadRefusal → Type 0
 TellsFirst faults (Refused r) = first_of faults ≡ Err r
 TellsFirst faults NoMemory = Unit {0}

@@ -34,7 +34,8 @@ impl Model for Checked {
 
     ghost view = { λ c. c.program };
 
-    ghost invariant = { λ c. (is_writable c.program ≡ true) × AreRulesKept c.program × (texts c.vars.keys ≡ names_of_vars c.program.vars) };
+    ghost invariant = { λ c. (is_writable c.program ≡ true) × AreRulesKept c.program
+        × (texts c.vars.keys ≡ names_of_vars c.program.vars) };
 }
 
 /// The program, where it keeps the rules; else its first fault in the order of its text.
@@ -71,7 +72,8 @@ impl Checked {
         self.program.guard()
     }
 
-    /// The greatest values of the variables, in the order of their declaration, and 0 for each that there is not.
+    /// The greatest values of the variables, in the order of their declaration,
+    /// and 0 for each that there is not.
     pub fn maxes(&self) -> [u8; 8]
         ensures { result ≡ maxes_of self.now }
     {

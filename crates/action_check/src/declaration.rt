@@ -20,9 +20,11 @@ const MOST_VALUE: u32 = 255;
 
 /// Declares a name behind these.
 fn declare(names: &mut IndexSet<NameText>, name: &Word) -> Result<(), ReadRefusal>
-    ensures fine { OnOk result (first_of (spec.declared_faults (texts names.old.keys) (name_of name.now)) ≡ Ok tt) }
+    ensures fine { OnOk result (
+        first_of (spec.declared_faults (texts names.old.keys) (name_of name.now)) ≡ Ok tt) }
     ensures names { OnOk result (texts names.new.keys ≡ texts names.old.keys ++ name.now.text.bytes ∷ []) }
-    ensures wrong { IfErr result (TellsFirst (spec.declared_faults (texts names.old.keys) (name_of name.now))) }
+    ensures wrong { IfErr result (
+        TellsFirst (spec.declared_faults (texts names.old.keys) (name_of name.now))) }
 {
     if !names.insert(name.text)? {
         refused(name, RefusalKind::TwiceNamed)?;
@@ -52,10 +54,12 @@ pub fn check_actions(
 ) -> Result<(), ReadRefusal>
     requires { list_all is_action (map action_of actions.now) ≡ true }
     ensures fine { OnOk result (
-        first_of (spec.actions_faults (record { vars = texts vars.now.keys; bound = [] }) [] (map action_of actions.now))
+        first_of (spec.actions_faults (record { vars = texts vars.now.keys; bound = [] })
+        [] (map action_of actions.now))
         ≡ Ok tt) }
     ensures wrong { IfErr result (TellsFirst (
-        spec.actions_faults (record { vars = texts vars.now.keys; bound = [] }) [] (map action_of actions.now))) }
+        spec.actions_faults (record { vars = texts vars.now.keys; bound = [] })
+        [] (map action_of actions.now))) }
 {
     let mut names = IndexSet::new(alloc);
     for action in actions {

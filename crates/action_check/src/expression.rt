@@ -63,7 +63,8 @@ pub fn check_inside(name: &Word, guard: &Guard, scope: &Scope<'_>) -> Result<(),
     requires { HasRoom (known_scope scope.now) (suc (guard_names (view.guard_of guard.now))) }
     ensures { result ≡ first_of (
         spec.binding_faults (known_scope scope.now) (view.name_of name.now)
-        ++ spec.guard_faults (scope_with (known_scope scope.now) (view.name_of name.now)) (view.guard_of guard.now)) }
+        ++ spec.guard_faults (scope_with (known_scope scope.now) (view.name_of name.now))
+        (view.guard_of guard.now)) }
 {
     scope.new_name(name)?;
     check_guard(guard, &scope.bind(name))
@@ -121,7 +122,8 @@ pub fn check_port(port: &PortExpr, scope: &Scope<'_>) -> Result<(), Refusal>
 }
 
 fn check_direction(direction: &DirTerm, scope: &Scope<'_>) -> Result<(), Refusal>
-    ensures { result ≡ first_of (spec.dirterm_faults (known_scope scope.now) (view.dirterm_of direction.now)) }
+    ensures { result ≡ first_of (
+        spec.dirterm_faults (known_scope scope.now) (view.dirterm_of direction.now)) }
 {
     match direction {
         DirTerm::Number(number) => within(MOST_DIRECTION, number),

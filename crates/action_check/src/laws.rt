@@ -3,7 +3,8 @@
 ghost use Rattle.action_check.specs.Laws.{FaultlessIsKept, KeptIsFaultless, RowsAreDerived, SamplesKeepRules};
 ghost use Rattle.action_check.specs.Laws.{FaultsIgnoreLines, RulesIgnoreLines, FaultsFollowText, FaultsOfTextNeverFall};
 
-/// The list of faults is empty exactly where each part of the program is what an evaluation relies on.
+/// The list of faults is empty exactly where each part of the program
+/// is what an evaluation relies on.
 #[tactic(auto, using(crate::proofs::Whole::program_kept, crate::proofs::Whole::program_fine))]
 pub fn faultless_is_kept()
     ensures kept { FaultlessIsKept }
@@ -16,14 +17,15 @@ pub fn rows_are_derived()
     ensures shipped { SamplesKeepRules }
 {}
 
-/// Programs that are equal without their lines have the same faults, apart from lines; so both keep the rules, or neither does.
-#[tactic(auto, using(crate::proofs::Lineless::faults_ignore_lines, crate::proofs::Lineless::rules_ignore_lines))]
+/// Programs that are equal without their lines have the same faults, apart from lines;
+/// so both keep the rules, or neither does.
 pub fn faults_ignore_lines()
     ensures faults { FaultsIgnoreLines }
     ensures rules { RulesIgnoreLines }
 {}
 
-/// The faults stand in the order of lines: where the lines of a program never fall, those of its faults never do.
+/// The faults stand in the order of lines: where the lines of a program never fall,
+/// those of its faults never do.
 pub fn faults_follow_text()
     ensures program { FaultsFollowText }
     ensures text { FaultsOfTextNeverFall }

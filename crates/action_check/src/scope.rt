@@ -1,4 +1,5 @@
-//! Which names are known where a part of a program stands, and what is wrong with one name or one number there.
+//! Which names are known where a part of a program stands,
+//! and what is wrong with one name or one number there.
 
 ghost use Rattle.std.specs.Prelude.{◌≡◌, []};
 ghost use Rattle.action_tree.specs.Views.{name_of, literal_of};

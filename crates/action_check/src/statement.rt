@@ -62,9 +62,12 @@ fn check_stmt(stmt: &Stmt, scope: &Scope<'_>) -> Result<(), Refusal>
 #[cycle(statements)]
 fn check_stmts<'a>(stmts: &[Stmt], mut scope: Scope<'a>) -> Result<Scope<'a>, Refusal>
     requires { HasRoom (known_scope scope) (stmts_names 0 (view.stmts_of stmts.now)) }
-    ensures fine { IfOk result (λ _. first_of (spec.stmts_faults (known_scope scope.entry) (view.stmts_of stmts.now)) ≡ Ok tt) }
-    ensures behind { IfOk result (λ sc. known_scope sc ≡ scope_after_all (known_scope scope.entry) (view.stmts_of stmts.now)) }
-    ensures wrong { IfErr result (λ r. first_of (spec.stmts_faults (known_scope scope.entry) (view.stmts_of stmts.now)) ≡ Err r) }
+    ensures fine { IfOk result (λ _.
+        first_of (spec.stmts_faults (known_scope scope.entry) (view.stmts_of stmts.now)) ≡ Ok tt) }
+    ensures behind { IfOk result (λ sc.
+        known_scope sc ≡ scope_after_all (known_scope scope.entry) (view.stmts_of stmts.now)) }
+    ensures wrong { IfErr result (λ r.
+        first_of (spec.stmts_faults (known_scope scope.entry) (view.stmts_of stmts.now)) ≡ Err r) }
 {
     for stmt in stmts {
         check_stmt(stmt, &scope)?;

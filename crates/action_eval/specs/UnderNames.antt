@@ -16,8 +16,8 @@ use Rattle.action_meaning.specs.Choices.{Asked}
 use Rattle.action_meaning.specs.Values.{guard_value}
 use Rattle.action_eval.specs.Known.{scope_of}
 
--- the name is new to the names known, and the guard keeps the rules with it in force, and its names have their places;
--- the counts in the guard are those of a text
+-- the name is new to the names known, and the guard keeps the rules with it in force,
+-- and its names have their places; the counts in the guard are those of a text
 pub record MayAsk (xs : Names) (name : Word) (guard : Guard) : Type 0 where
   pub new : IsNew (scope_of xs) (name_of name)
   pub kept : GuardKept (scope_bind (scope_of xs) (name_of name)) (guard_of guard)
@@ -29,7 +29,8 @@ pub record IsUnder (xs : Names) (name : Word) (inner : Names) : Type 0 where
   pub port : Port
   pub bound : inner ≡ bind xs (name_of name) port
 
--- the statements keep the rules with the name in force, and their names have their places; the counts in them are those of a text
+-- the statements keep the rules with the name in force, and their names have their places;
+-- the counts in them are those of a text
 pub record MayRunUnder (xs : Names) (name : Word) (stmts : List Stmt) : Type 0 where
   pub kept : StmtsKept (scope_bind (scope_of xs) (name_of name)) (stmts_of stmts)
   pub placed : stmts_placed stmts (scope_bind (scope_of xs) (name_of name)) ≡ true

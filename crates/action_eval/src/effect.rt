@@ -24,8 +24,8 @@ use action_tree::{Action, Guard, Move, PortSet, Stmt, Sum, Word};
 use amoebot_state::{Failure, Moved, Port};
 use model_ops::Site;
 
-/// Gives a variable the value of a sum: the amoebot's own, or that of the neighbour behind a port. The failure of the sum comes
-/// before those of the write.
+/// Gives a variable the value of a sum: the amoebot's own, or that of the neighbour behind a port.
+/// The failure of the sum comes before those of the write.
 fn put<'p>(
     port: Option<Port>,
     name: &'p Word,
@@ -53,7 +53,8 @@ fn run_stmt<'p>(stmt: &'p Stmt, site: &mut Site, names: Names<'p>) -> Result<Nam
     requires kept { StmtKept (scope_of (known names)) (view.stmt_of stmt.now) }
     requires placed { stmt_placed stmt.now (scope_of (known names)) ≡ true }
     requires counted { is_stmt (view.stmt_of stmt.now) ≡ true }
-    ensures { HasRun (stmt_effect (own_id site.old) (view.stmt_of stmt.now) (moment_of site.old (known names.entry)))
+    ensures { HasRun
+        (stmt_effect (own_id site.old) (view.stmt_of stmt.now) (moment_of site.old (known names.entry)))
         known result site.old site.new }
 {
     match stmt {
@@ -95,7 +96,8 @@ fn run_stmts<'p>(
     requires kept { StmtsKept (scope_of (known names)) (view.stmts_of stmts.now) }
     requires placed { stmts_placed stmts.now (scope_of (known names)) ≡ true }
     requires counted { are_stmts (view.stmts_of stmts.now) ≡ true }
-    ensures { HasRun (stmts_effect (own_id site.old) (view.stmts_of stmts.now) (moment_of site.old (known names.entry)))
+    ensures { HasRun
+        (stmts_effect (own_id site.old) (view.stmts_of stmts.now) (moment_of site.old (known names.entry)))
         known result site.old site.new }
 {
     for stmt in stmts {
@@ -117,7 +119,8 @@ fn run_for<'p>(
     requires asked { MayAsk (known names.now) name.now guard.now }
     requires run { MayRunUnder (known names.now) name.now stmts.now }
     ensures { HasRun (for_ports
-        (turn_effect (own_id site.old) (view.name_of name.now) (view.guard_of guard.now) (view.stmts_of stmts.now))
+        (turn_effect (own_id site.old) (view.name_of name.now)
+        (view.guard_of guard.now) (view.stmts_of stmts.now))
         (spec.ports_of (sight_of site.old) set) (moment_of site.old (known names.now)))
         (λ _. known names.now) result site.old site.new }
 {
@@ -141,7 +144,8 @@ fn run_turn<'p>(
     requires asked { MayAsk (known names.now) name.now guard.now }
     requires run { MayRunUnder (known names.now) name.now stmts.now }
     ensures { HasRun
-        (turn_effect (own_id site.old) (view.name_of name.now) (view.guard_of guard.now) (view.stmts_of stmts.now)
+        (turn_effect (own_id site.old) (view.name_of name.now)
+        (view.guard_of guard.now) (view.stmts_of stmts.now)
         port (moment_of site.old (known names.now)))
         (λ _. known names.now) result site.old site.new }
 {
@@ -191,8 +195,8 @@ fn make_move(moved: Moved, guard: bool, site: &mut Site) -> Result<(), Failure>
     }
 }
 
-/// The statements of an action, and then its movement, in which what they bound is in force. The movement that was made is given
-/// back.
+/// The statements of an action, and then its movement, in which what they bound is in force.
+/// The movement that was made is given back.
 pub fn run_action<'p>(
     action: &'p Action,
     guard: bool,
@@ -210,12 +214,15 @@ pub fn run_action<'p>(
     requires shown { IsShown site.old.found }
     requires opened { site.old ≡ opened site.old.found }
     ensures made { IfOk result (λ moved.
-        action_effect guard (own_id site.old) (view.action_of action.now) (moment_of site.old (known names.entry))
+        action_effect guard (own_id site.old) (view.action_of action.now)
+        (moment_of site.old (known names.entry))
         ≡ Ok (record { moved = moved; reached = site.new.reached })) }
     ensures found { IfOk result (λ _. site.new.found ≡ site.old.found) }
-    ensures reaches { IfOk result (λ _. Reaches (shown_alone site.new.found) (own_id site.new) site.new.reached) }
+    ensures reaches { IfOk result (λ _.
+        Reaches (shown_alone site.new.found) (own_id site.new) site.new.reached) }
     ensures failed { IfErr result (λ f.
-        action_effect guard (own_id site.old) (view.action_of action.now) (moment_of site.old (known names.entry))
+        action_effect guard (own_id site.old) (view.action_of action.now)
+        (moment_of site.old (known names.entry))
         ≡ Err f) }
 {
     let names = run_stmts(&action.body, site, names)?;

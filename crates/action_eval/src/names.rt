@@ -15,7 +15,8 @@ pub struct Bound<'p> {
     pub port: Port,
 }
 
-/// The variables in the order of their declaration, and the names in force in the order of the text.
+/// The variables in the order of their declaration, and the names
+/// in force in the order of the text.
 /// Each name that is used has its place among them, so none is looked for.
 #[derive(Drop)]
 pub struct Names<'p> {

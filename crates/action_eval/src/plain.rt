@@ -1,5 +1,6 @@
-//! Comparisons of plain sums: of a number, an own variable, or a variable behind a name in force or a pair turned from it. Most
-//! comparisons are such.
+//! Comparisons of plain sums: of a number, an own variable,
+//! or a variable behind a name in force or a pair turned from it.
+//! Most comparisons are such.
 
 ghost use Rattle.std.specs.Prelude.{◌≡◌, true, IfSome, Ok};
 ghost use Rattle.model_ops.specs.Sights.{Sight};
@@ -42,7 +43,8 @@ pub fn plain_comparison(
 fn plain_sum(sum: &Sum, site: &Site, names: &Names<'_>) -> Option<i32>
     requires kept { SumKept (scope_of (known names.now)) (view.sum_of sum.now) }
     requires placed { sum_placed sum.now (scope_of (known names.now)) ≡ true }
-    ensures { IfSome result (λ x. spec.sum_value (sight_of site.now) (known names.now) (view.sum_of sum.now) ≡ Ok x) }
+    ensures { IfSome result (λ x.
+        spec.sum_value (sight_of site.now) (known names.now) (view.sum_of sum.now) ≡ Ok x) }
 {
     let parts = sum.parts.as_slice();
     if parts.len() != 1 || parts[0].minus {
@@ -56,7 +58,8 @@ fn plain_sum(sum: &Sum, site: &Site, names: &Names<'_>) -> Option<i32>
 fn plain_term(term: &Term, site: &Site, names: &Names<'_>) -> Option<i32>
     requires kept { TermKept (scope_of (known names.now)) (view.term_of term.now) }
     requires placed { term_placed term.now (scope_of (known names.now)) ≡ true }
-    ensures { IfSome result (λ x. spec.term_value (sight_of site.now) (known names.now) (view.term_of term.now) ≡ Ok x) }
+    ensures { IfSome result (λ x.
+        spec.term_value (sight_of site.now) (known names.now) (view.term_of term.now) ≡ Ok x) }
 {
     match term {
         Term::Number(number) => Some(number.value as i32),
@@ -73,12 +76,14 @@ fn plain_term(term: &Term, site: &Site, names: &Names<'_>) -> Option<i32>
     }
 }
 
-/// The pair that a name stands for, or one that is turned from it. None, where it is another expression.
+/// The pair that a name stands for, or one that is turned from it.
+/// None, where it is another expression.
 #[inline(always)]
 pub fn plain_port(port: &PortExpr, names: &Names<'_>) -> Option<Port>
     requires kept { PortKept (scope_of (known names.now)) (view.port_of port.now) }
     requires placed { port_placed port.now (scope_of (known names.now)) ≡ true }
-    ensures { IfSome result (λ p. (s : Sight) → spec.port_value s (known names.now) (view.port_of port.now) ≡ Ok p) }
+    ensures { IfSome result (λ p.
+        (s : Sight) → spec.port_value s (known names.now) (view.port_of port.now) ≡ Ok p) }
 {
     match port {
         PortExpr::Turn(port, number) => {
@@ -97,7 +102,8 @@ pub fn plain_port(port: &PortExpr, names: &Names<'_>) -> Option<Port>
 fn named_port(port: &PortExpr, names: &Names<'_>) -> Option<Port>
     requires kept { PortKept (scope_of (known names.now)) (view.port_of port.now) }
     requires placed { port_placed port.now (scope_of (known names.now)) ≡ true }
-    ensures { IfSome result (λ p. (s : Sight) → spec.port_value s (known names.now) (view.port_of port.now) ≡ Ok p) }
+    ensures { IfSome result (λ p.
+        (s : Sight) → spec.port_value s (known names.now) (view.port_of port.now) ≡ Ok p) }
 {
     match port {
         PortExpr::Name(name) => Some(names.port_named(name)),

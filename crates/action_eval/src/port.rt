@@ -11,7 +11,8 @@ use amoebot_state::{ALL_PORTS, Bot, Failure, Port};
 use arrayvec::ArrayVec;
 use model_ops::Site;
 
-/// The ports of a set, in port order: the connected ones, or those whose node behind can be entered.
+/// The ports of a set, in port order: the connected ones,
+/// or those whose node behind can be entered.
 pub fn ports_of(set: PortSet, site: &Site) -> ArrayVec<Port, 12>
     ensures { result.items ≡ spec.ports_of (sight_of site.now) set }
 {
@@ -27,7 +28,8 @@ pub fn ports_of(set: PortSet, site: &Site) -> ArrayVec<Port, 12>
 /// The pairs that may be ports, in port order: of a contracted amoebot those of its head alone.
 #[inline(always)]
 pub fn pairs(site: &Site) -> &'static [Port]
-    ensures whole { (set : PortSet) → spec.ports_of (sight_of site.now) set ≡ filter (is_in_set (sight_of site.now) set) result.now }
+    ensures whole { (set : PortSet)
+        → spec.ports_of (sight_of site.now) set ≡ filter (is_in_set (sight_of site.now) set) result.now }
     ensures few { length result.now ≤ 12 }
 {
     if site.own().is_contracted() {
@@ -72,7 +74,8 @@ pub fn inner_value(own: &Bot) -> Result<u8, Failure>
     }
 }
 
-/// The first local direction whose step from the tail leads to the head; 0 where none does, as it is of no amoebot.
+/// The first local direction whose step from the tail leads to the head; 0 where none does,
+/// as it is of no amoebot.
 fn inner_direction(own: &Bot) -> u8
     requires { IsBotInRange own.now }
     ensures value { result ≡ unwrap_or (spec.inner_direction own.now) 0 }

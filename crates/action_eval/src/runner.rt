@@ -24,7 +24,8 @@ use amoebot_state::{Change, Decider, Failure, Found, Moved, Patch, Verdict};
 use model_ops::Site;
 use std::marker::Model;
 
-/// The decider of a checked program. It decides on a working copy of what an amoebot is shown, and takes no memory.
+/// The decider of a checked program.
+/// It decides on a working copy of what an amoebot is shown, and takes no memory.
 #[derive(Drop)]
 pub struct Runner {
     checked: Checked,
@@ -67,7 +68,8 @@ impl Decider for Runner {
     fn decide(&self, found: &Found) -> Verdict {
         let program = self.checked.program();
         let names = Names::new(program.vars());
-        // Borrowed where it was made: a working copy with a name of its own would be moved once more.
+        // Borrowed where it was made: a working copy with a name
+        // of its own would be moved once more.
         let site = &mut Site::new(found);
         match actions_decide(program.actions(), program.guard(), site, names) {
             Ok(Some((action, moved))) => change_made(action, moved, site),
@@ -79,8 +81,9 @@ impl Decider for Runner {
     ghost is_lawful = { λ p. acts_keep_decider_laws (verdict_shown p) (programs_decide_by_acts p) };
 }
 
-/// The actions in the order of the text: the first whose guard is not false decides. Where it is made, the working copy has come to what
-/// it leaves, and its number and its movement are given back.
+/// The actions in the order of the text: the first whose guard is not false decides.
+/// Where it is made, the working copy has come to what it leaves,
+/// and its number and its movement are given back.
 fn actions_decide<'p>(
     actions: &'p [Action],
     guard: bool,
@@ -104,7 +107,8 @@ fn actions_decide<'p>(
     Ok(None)
 }
 
-/// An action whose guard is true: what its statements and its movement do decides, or their failure.
+/// An action whose guard is true: what its statements and its movement do decides,
+/// or their failure.
 fn action_decides<'p>(
     number: u8,
     action: &'p Action,
@@ -124,8 +128,8 @@ fn action_decides<'p>(
     Ok(Some((number, moved)))
 }
 
-/// The verdict that an action was made, which leaves what the working copy has come to. It stays a function of its own, since most turns
-/// make none.
+/// The verdict that an action was made, which leaves what the working copy has come to.
+/// It stays a function of its own, since most turns make none.
 #[inline(never)]
 fn change_made(action: u8, moved: Moved, site: &Site) -> Verdict
     requires { Reaches (shown_alone site.now.found) (own_id site.now) site.now.reached }

@@ -1,6 +1,7 @@
 //! The values of guards, sums and ports.
 //!
-//! Quantifiers and tests of ports stay out of line: a comparison then makes no room for what they need.
+//! Quantifiers and tests of ports stay out of line: a comparison then
+//! makes no room for what they need.
 
 ghost use Rattle.std.specs.Prelude.{◌≡◌, ◌<◌, ◌≤ℤ◌, pos, true, IfOk};
 ghost use Rattle.action_tree.specs.Places.{dirterm_placed, guard_placed, guards_placed, port_placed, term_placed, sum_placed};
@@ -67,8 +68,9 @@ pub fn guard_value<'p>(guard: &'p Guard, site: &Site, names: &Names<'p>) -> Resu
     }
 }
 
-/// The value of a guard. Those that stand most often are answered here, without the room that the others need: comparisons of plain
-/// sums are looked up at once.
+/// The value of a guard.
+/// Those that stand most often are answered here, without the room that the others need:
+/// comparisons of plain sums are looked up at once.
 #[inline(always)]
 #[cycle(values)]
 pub fn quick_value<'p>(guard: &'p Guard, site: &Site, names: &Names<'p>) -> Result<bool, Failure>
@@ -262,7 +264,8 @@ fn count_value<'p>(
     names: &Names<'p>,
 ) -> Result<u8, Failure>
     requires { MayAsk (known names.now) name.now guard.now }
-    ensures value { result ≡ count_of_ports (guard_at (sight_of site.now) (known names.now) name.now guard.now)
+    ensures value { result ≡ count_of_ports
+        (guard_at (sight_of site.now) (known names.now) name.now guard.now)
         (spec.ports_of (sight_of site.now) set) }
     ensures few { IfOk result (λ n. n < 13) }
 {
@@ -284,7 +287,8 @@ fn count_value<'p>(
     Ok(count)
 }
 
-/// The value of a sum. It has at most 64 terms, each of at most 65,535 in size, so it stays far within 32 bits.
+/// The value of a sum.
+/// It has at most 64 terms, each of at most 65,535 in size, so it stays far within 32 bits.
 #[tactic(auto, using(crate::proofs::Evaluated::value_steps))]
 #[cycle(values)]
 pub fn sum_value<'p>(sum: &'p Sum, site: &Site, names: &Names<'p>) -> Result<i32, Failure>
@@ -395,7 +399,8 @@ pub fn port_value<'p>(port: &'p PortExpr, site: &Site, names: &Names<'p>) -> Res
 fn direction_value(direction: &DirTerm, site: &Site, names: &Names<'_>) -> Result<u8, Failure>
     requires kept { DirTermKept (scope_of (known names.now)) (view.dirterm_of direction.now) }
     requires placed { dirterm_placed direction.now (scope_of (known names.now)) ≡ true }
-    ensures { result ≡ spec.dirterm_value (sight_of site.now) (known names.now) (view.dirterm_of direction.now) }
+    ensures { result ≡ spec.dirterm_value (sight_of site.now)
+        (known names.now) (view.dirterm_of direction.now) }
 {
     match direction {
         DirTerm::Number(number) => Ok(number.value as u8),

@@ -1,4 +1,5 @@
--- What is asked of the ports of a list, one after the other: the first port that decides gives the answer, or the failure.
+-- What is asked of the ports of a list, one after the other:
+-- the first port that decides gives the answer, or the failure.
 use Rattle.std.specs.Prelude.{ℕ, Bool, true, false, not, List}
 use Rattle.std.specs.List.{find, count_by}
 use Rattle.std.specs.declared.option.Option.{Option}
@@ -38,7 +39,8 @@ all_of_ports asked ps = decided_by (Ok true) asked (find (λ p. not (is_true (as
 
 -- `first`: the first port of which it is not false; without one there is no choice
 abbrev pub first_of_ports : Asked → List Port → Result Port Failure
-first_of_ports asked ps = decided_by (Err NoChoice) (λ p. and_then (asked p) (λ b. Ok p)) (find (λ p. not (is_false (asked p))) ps)
+first_of_ports asked ps =
+    decided_by (Err NoChoice) (λ p. and_then (asked p) (λ b. Ok p)) (find (λ p. not (is_false (asked p))) ps)
 
 -- `count`: of how many ports it is true, or the failure of the first port that fails
 abbrev pub count_of_ports : Asked → List Port → Result ℕ Failure

@@ -16,8 +16,9 @@ use Rattle.action_meaning.specs.Verdicts.{verdict_on, verdict_shown}
 use Rattle.action_meaning.specs.Rows.{guard_in_shape, guard_rows, compared_in_shape, compared_rows, sum_in_shape, sum_rows, verdict_in_shape, verdict_rows, verdict_in_queue, queue_rows, guarded_in_queue, guarded_rows}
 use Rattle.action_meaning.specs.Rows.{guard_beside_walls, walled_guard_rows, sum_beside_walls, walled_sum_rows, verdict_beside_walls, walled_verdict_rows, verdict_shut_in, shut_rows}
 
--- on what a valid configuration shows to an amoebot of it, f decides the verdict of the program on that configuration; ids without an
--- amoebot are allowed, and any greatest values
+-- on what a valid configuration shows to an amoebot of it,
+-- f decides the verdict of the program on that configuration; ids without an amoebot are allowed,
+-- and any greatest values
 abbrev pub DecidesVerdict : (Shown → Verdict) → Program → Type 0
 DecidesVerdict f p = (c : Config) (i : ℕ) → IsValid c → IsSome (bot_at c i) → f (shown c i) ≡ verdict_on p c i
 
@@ -32,7 +33,8 @@ ProgramsDecideByActs = (p : Program) → DecidesByActs (verdict_shown p)
 abbrev pub GuardedProgramsDecideGuarded : Type 0
 GuardedProgramsDecideGuarded = (p : Program) → p.guard ≡ true → DecidesGuarded (verdict_shown p)
 
--- where the program has the guard on, a step by f from a valid configuration leaves connected occupied nodes connected
+-- where the program has the guard on, a step by f from a valid configuration leaves
+-- connected occupied nodes connected
 abbrev pub GuardedStepsStayConnected : (Shown → Verdict) → Program → Type 0
 GuardedStepsStayConnected f p =
     (old : Config) (e : Entry) (new : Config)
@@ -79,5 +81,6 @@ pub record ValuesAreComputed : Type 0 where
   pub guarded : map guarded_in_queue guarded_rows ≡ map (λ r. r.verdict) guarded_rows
   pub walled_guards : map guard_beside_walls walled_guard_rows ≡ map (λ r. r.value) walled_guard_rows
   pub walled_sums : map sum_beside_walls walled_sum_rows ≡ map (λ r. r.value) walled_sum_rows
-  pub walled_verdicts : map verdict_beside_walls walled_verdict_rows ≡ map (λ r. r.verdict) walled_verdict_rows
+  pub walled_verdicts : map verdict_beside_walls walled_verdict_rows
+      ≡ map (λ r. r.verdict) walled_verdict_rows
   pub shut_in : map verdict_shut_in shut_rows ≡ map (λ r. r.verdict) shut_rows

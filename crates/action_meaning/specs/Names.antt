@@ -21,7 +21,8 @@ pub record Names : Type 0 where
 abbrev pub var_number : Names → Name → ℕ
 var_number xs v = position_or_len (λ x. bytes_eq x v.text) xs.vars
 
--- the port that a name in force stands for; a program that keeps the rules on names asks for no other name
+-- the port that a name in force stands for; a program that keeps the rules
+-- on names asks for no other name
 abbrev pub port_in : List Bound → List ℕ → Port
 port_in [] text = port Head 0
 port_in (b ∷ bs) text = if bytes_eq b.text text then b.port else port_in bs text

@@ -1,4 +1,5 @@
--- Expressions and programs on four small configurations, each with its value or its failure, written out by hand.
+-- Expressions and programs on four small configurations, each with its value or its failure,
+-- written out by hand.
 use Rattle.std.specs.Prelude.{ℕ, ℤ, pos, negsuc, Bool, true, false, List, [], ◌∷◌, codes}
 use Rattle.std.specs.declared.option.Option.{Option}
 use Rattle.std.specs.declared.option.Option.TheVariants.{Some, None}
@@ -44,8 +45,10 @@ values x y = x ∷ y ∷ 0 ∷ 0 ∷ 0 ∷ 0 ∷ 0 ∷ 0 ∷ []
 abbrev body : Node → Node → ℕ → Chir → ℕ → ℕ → Bot
 body head tail rot way x y = record { head = head; tail = tail; rot = rot; chir = way; mem = values x y }
 
--- Amoebot 0 is contracted. Amoebot 1 is expanded, with its head behind the port (head, 0) of amoebot 0, and amoebot 2 contracted behind its
--- port (head, 3). Amoebot 3 is expanded and stands alone.
+-- Amoebot 0 is contracted.
+-- Amoebot 1 is expanded, with its head behind the port (head, 0) of amoebot 0,
+-- and amoebot 2 contracted behind its port (head, 3).
+-- Amoebot 3 is expanded and stands alone.
 abbrev zero : Bot
 zero = body (node 3 3) (node 3 3) 0 chir.Plus 4 6
 
@@ -69,8 +72,10 @@ shape = of_bots (zero ∷ one ∷ two ∷ three ∷ [])
 
 -- ---- the second one, in the same area
 
--- Amoebot 0 is expanded. Behind its port (tail, 3) is amoebot 1, contracted, and behind its port (head, 0) the tail of amoebot 2, which is
--- expanded. Amoebot 3 is contracted and alone, in the corner of the area.
+-- Amoebot 0 is expanded.
+-- Behind its port (tail, 3) is amoebot 1, contracted, and behind its port (head, 0) the tail
+-- of amoebot 2, which is expanded.
+-- Amoebot 3 is contracted and alone, in the corner of the area.
 abbrev middle : Bot
 middle = body (node 3 3) (node 2 3) 0 chir.Plus 4 6
 
@@ -91,7 +96,8 @@ queue = of_bots (middle ∷ back ∷ front ∷ corner ∷ [])
 abbrev with_walls : List Node → List Bot → Config
 with_walls walls bots = with_these (walled_frame area walls (values 9 9)) bots
 
--- behind the ports (head, 0) and (head, 1) of amoebot 0 are walls, and behind its port (head, 3) is amoebot 1, contracted
+-- behind the ports (head, 0) and (head, 1) of amoebot 0 are walls,
+-- and behind its port (head, 3) is amoebot 1, contracted
 abbrev walled : Config
 walled = with_walls (node 4 3 ∷ node 3 4 ∷ []) (zero ∷ two ∷ [])
 
@@ -301,7 +307,8 @@ sum_rows =
     ∷ added 0 (plus (x_at (turn (head 5) 1)) ∷ []) (Ok (pos 2))
     ∷ added 0 (plus (x_at (head 1)) ∷ []) (Err NoNeighbour)
     ∷ added 0 (plus (x_at (tail 0)) ∷ []) (Err NoPort)
-    ∷ added 0 (plus (tree.count p Ports (tree.comparison (sum (x_at port_p)) Gt (sum (number 1)))) ∷ []) (Ok (pos 2))
+    ∷ added 0 (plus (tree.count p Ports (tree.comparison (sum (x_at port_p)) Gt (sum (number 1)))) ∷ [])
+    (Ok (pos 2))
     ∷ added 0 (plus (tree.count p Ports (is (x_at port_p) 7)) ∷ []) (Ok (pos 1))
     ∷ added 0 (plus (tree.count p Free yes) ∷ []) (Ok (pos 4))
     ∷ added 0 (plus (tree.count p Free (is (x_at port_p) 0)) ∷ []) (Err NoNeighbour)
@@ -400,45 +407,59 @@ verdict_rows =
     ∷ decided 0 (act no [] tree.no_move ∷ []) verdict.Idle
     -- the first action whose guard is not false
     ∷ decided 0 (act no (set_x 1 ∷ []) tree.no_move ∷ act yes (set_x 2 ∷ []) tree.no_move
-    ∷ act yes (set_x 3 ∷ []) tree.no_move ∷ []) (change 1 (patched 0 zero (record zero { mem = values 2 6 }) ∷ []))
-    ∷ decided 0 (act no [] tree.no_move ∷ act (is (x_at (head 1)) 0) [] tree.no_move ∷ act yes [] tree.no_move ∷ [])
+    ∷ act yes (set_x 3 ∷ []) tree.no_move ∷ [])
+    (change 1 (patched 0 zero (record zero { mem = values 2 6 }) ∷ []))
+    ∷ decided 0 (act no [] tree.no_move
+    ∷ act (is (x_at (head 1)) 0) [] tree.no_move ∷ act yes [] tree.no_move ∷ [])
     (verdict.Failed NoNeighbour)
     -- a value that stands there makes no pair, and a change may have none
     ∷ decided 0 (act yes (set_x 4 ∷ []) tree.no_move ∷ []) (change 0 [])
     ∷ decided 0 (act yes [] tree.no_move ∷ []) (change 0 [])
     -- a write that fails ends the activation, with what was written before it
     ∷ decided 0 (act yes (set_x 1 ∷ set_x 10 ∷ []) tree.no_move ∷ []) (verdict.Failed OutOfRange)
-    ∷ decided 0 (act yes (tree.put x (terms (plus (number 0) ∷ less (tree.own x) ∷ [])) ∷ []) tree.no_move ∷ [])
+    ∷ decided 0
+    (act yes (tree.put x (terms (plus (number 0) ∷ less (tree.own x) ∷ [])) ∷ []) tree.no_move ∷ [])
     (verdict.Failed OutOfRange)
     -- the port, then the sum, then the write
-    ∷ decided 0 (act yes (tree.put_of (head 1) x (sum tree.inner) ∷ []) tree.no_move ∷ []) (verdict.Failed NotExpanded)
+    ∷ decided 0 (act yes (tree.put_of (head 1) x (sum tree.inner) ∷ []) tree.no_move ∷ [])
+    (verdict.Failed NotExpanded)
     ∷ decided 0 (act yes (tree.put_of (first_p Ports no) x (sum tree.inner) ∷ []) tree.no_move ∷ [])
     (verdict.Failed NoChoice)
     ∷ decided 0 (act yes (tree.put_of (head 3) y (sum (tree.own x)) ∷ []) tree.no_move ∷ [])
     (change 0 (patched 2 two (record two { mem = values 7 4 }) ∷ []))
-    -- a name of `let` stands for the port that was evaluated at its statement, and is in force in the movement
+    -- a name of `let` stands for the port that was evaluated at its statement,
+    -- and is in force in the movement
     ∷ decided 0 (act yes
     (tree.let_be q (tree.at_end Head (tree.held x)) ∷ set_x 5 ∷ tree.put y (sum (dir (tree.bound q))) ∷ [])
     (tree.through tree.expand (tree.bound q)) ∷ [])
     (verdict.Change (record {
       action = 0;
       moved = moved.Expand (port Head 4);
-      patch = moved_on (node 3 2) None (Some 0) ∷ patched 0 zero (body (node 3 2) (node 3 3) 0 chir.Plus 5 4) ∷ [];
+      patch = moved_on (node 3 2) None (Some 0)
+          ∷ patched 0 zero (body (node 3 2) (node 3 3) 0 chir.Plus 5 4) ∷ [];
     }))
-    ∷ decided 0 (act yes (tree.if_then yes (stmts (set_x 1 ∷ [])) (stmts (set_x 2 ∷ [])) ∷ []) tree.no_move ∷ [])
+    ∷ decided 0
+    (act yes (tree.if_then yes (stmts (set_x 1 ∷ [])) (stmts (set_x 2 ∷ [])) ∷ []) tree.no_move ∷ [])
     (change 0 (patched 0 zero (record zero { mem = values 1 6 }) ∷ []))
-    ∷ decided 0 (act yes (tree.if_then no (stmts (set_x 1 ∷ [])) (stmts (set_x 2 ∷ [])) ∷ []) tree.no_move ∷ [])
+    ∷ decided 0
+    (act yes (tree.if_then no (stmts (set_x 1 ∷ [])) (stmts (set_x 2 ∷ [])) ∷ []) tree.no_move ∷ [])
     (change 0 (patched 0 zero (record zero { mem = values 2 6 }) ∷ []))
-    ∷ decided 0 (act yes (tree.if_then no (stmts (set_x 1 ∷ [])) tree.no_stmts ∷ []) tree.no_move ∷ []) (change 0 [])
-    -- each condition of a `for` is asked in what was reached: what is done for the first port makes it false for the second
+    ∷ decided 0 (act yes (tree.if_then no (stmts (set_x 1 ∷ [])) tree.no_stmts ∷ []) tree.no_move ∷ [])
+    (change 0 [])
+    -- each condition of a `for` is asked in what was reached:
+    -- what is done for the first port makes it false for the second
     ∷ decided 0 (act yes (tree.for_each p Ports (is (tree.own x) 4)
     (stmts (set_x 5 ∷ tree.put_of port_p y (sum (number 1)) ∷ [])) ∷ []) tree.no_move ∷ [])
-    (change 0 (patched 0 zero (record zero { mem = values 5 6 }) ∷ patched 1 one (record one { mem = values 2 1 }) ∷ []))
-    ∷ decided 0 (act yes (tree.for_each p Ports yes (stmts (tree.put_of port_p y (sum (dir port_p)) ∷ [])) ∷ [])
+    (change 0 (patched 0 zero (record zero { mem = values 5 6 })
+    ∷ patched 1 one (record one { mem = values 2 1 }) ∷ []))
+    ∷ decided 0
+    (act yes (tree.for_each p Ports yes (stmts (tree.put_of port_p y (sum (dir port_p)) ∷ [])) ∷ [])
     tree.no_move ∷ []) (change 0 (patched 2 two (record two { mem = values 7 3 }) ∷ []))
     -- the port of a movement comes before the movement's own conditions
-    ∷ decided 3 (act yes [] (tree.through tree.expand (tree.at_end Head (tree.held y))) ∷ []) (verdict.Failed NotContracted)
-    ∷ decided 0 (act yes [] (tree.through tree.pull (tree.at_end Head (tree.held y))) ∷ []) (verdict.Failed NoPort)
+    ∷ decided 3 (act yes [] (tree.through tree.expand (tree.at_end Head (tree.held y))) ∷ [])
+    (verdict.Failed NotContracted)
+    ∷ decided 0 (act yes [] (tree.through tree.pull (tree.at_end Head (tree.held y))) ∷ [])
+    (verdict.Failed NoPort)
     ∷ decided 0 (act yes [] (tree.through tree.expand (head 0)) ∷ []) (verdict.Failed Occupied)
     ∷ decided 0 (act yes (set_x 1 ∷ []) (tree.contract Tail) ∷ []) (verdict.Failed NotExpanded)
     ∷ decided 0 (moves (tree.through tree.expand (tail 1))) (verdict.Failed NoPort)
@@ -460,7 +481,8 @@ verdict_rows =
     (verdict.Change (record {
       action = 0;
       moved = moved.Contract Head;
-      patch = moved_on (node 1 1) (Some 3) None ∷ patched 3 three (body (node 0 1) (node 0 1) 1 chir.Plus 0 0) ∷ [];
+      patch = moved_on (node 1 1) (Some 3) None
+          ∷ patched 3 three (body (node 0 1) (node 0 1) 1 chir.Plus 0 0) ∷ [];
     }))
     ∷ []
 
@@ -468,9 +490,11 @@ verdict_rows =
 abbrev pub queue_rows : List VerdictRow
 queue_rows =
     decided 0 (moves (tree.contract Tail))
-    (moving (moved.Contract Tail) (moved_on (node 2 3) (Some 0) None ∷ patched 0 middle (body (node 3 3) (node 3 3) 0 chir.Plus 4 6) ∷ []))
+    (moving (moved.Contract Tail)
+    (moved_on (node 2 3) (Some 0) None ∷ patched 0 middle (body (node 3 3) (node 3 3) 0 chir.Plus 4 6) ∷ []))
     ∷ decided 0 (moves (tree.contract Head))
-    (moving (moved.Contract Head) (moved_on (node 3 3) (Some 0) None ∷ patched 0 middle (body (node 2 3) (node 2 3) 0 chir.Plus 4 6) ∷ []))
+    (moving (moved.Contract Head)
+    (moved_on (node 3 3) (Some 0) None ∷ patched 0 middle (body (node 2 3) (node 2 3) 0 chir.Plus 4 6) ∷ []))
     ∷ []
 
 -- amoebot 0 leaves the node of its tail, and amoebot 1 enters it
@@ -488,7 +512,8 @@ guarded_rows =
     ∷ decided 0 (act yes (set_x 1 ∷ []) (tree.contract Head) ∷ []) (verdict.Failed WouldSplit)
     -- on one side alone
     ∷ decided 2 (moves (tree.contract Head))
-    (moving (moved.Contract Head) (moved_on (node 5 3) (Some 2) None ∷ patched 2 front (body (node 4 3) (node 4 3) 0 chir.Plus 7 0) ∷ []))
+    (moving (moved.Contract Head)
+    (moved_on (node 5 3) (Some 2) None ∷ patched 2 front (body (node 4 3) (node 4 3) 0 chir.Plus 7 0) ∷ []))
     ∷ decided 1 (moves (tree.contract Head)) (verdict.Failed NotExpanded)
     -- a pull, which the guard lets pass
     ∷ decided 0 (moves (tree.through tree.pull (tail 3))) pulled
@@ -497,12 +522,16 @@ guarded_rows =
     ∷ decided 0 (moves (tree.through tree.pull (head 0))) (verdict.Failed PeerNotContracted)
     ∷ decided 3 (moves (tree.through tree.expand (head 0))) (verdict.Failed Edge)
     -- the ports of an expanded amoebot: those of the head, then those of the tail
-    ∷ decided 0 (moves (tree.through tree.pull (first_p Ports (tree.negation (tree.tested tree.peer_expanded port_p))))) pulled
-    ∷ decided 0 (act yes (tree.for_each p Ports yes (stmts (tree.put_of port_p y (sum (dir port_p)) ∷ set_x 1 ∷ [])) ∷ [])
+    ∷ decided 0 (moves
+    (tree.through tree.pull (first_p Ports (tree.negation (tree.tested tree.peer_expanded port_p))))) pulled
+    ∷ decided 0
+    (act yes (tree.for_each p Ports yes (stmts (tree.put_of port_p y (sum (dir port_p)) ∷ set_x 1 ∷ [])) ∷ [])
     tree.no_move ∷ [])
-    (change 0 (patched 0 middle (record middle { mem = values 1 6 }) ∷ patched 1 back (record back { mem = values 2 3 }) ∷ []))
+    (change 0 (patched 0 middle (record middle { mem = values 1 6 })
+    ∷ patched 1 back (record back { mem = values 2 3 }) ∷ []))
     -- the edge is at the neighbour's tail, and at a contracted one's head
-    ∷ decided 0 (act (tree.tested tree.peer_head (head 0)) [] tree.no_move ∷ act (tree.tested tree.peer_head (tail 3)) [] tree.no_move ∷ [])
+    ∷ decided 0 (act (tree.tested tree.peer_head (head 0)) [] tree.no_move
+    ∷ act (tree.tested tree.peer_head (tail 3)) [] tree.no_move ∷ [])
     (change 1 [])
     ∷ []
 

@@ -1,5 +1,7 @@
--- The value of a guard, a sum or a port, by cases on the tree, or the failure that comes first from left to right. It is a value of what
--- the amoebot can ask before it moves, with the names in force. The failures and their order are this project's profile.
+-- The value of a guard, a sum or a port, by cases on the tree,
+-- or the failure that comes first from left to right.
+-- It is a value of what the amoebot can ask before it moves, with the names in force.
+-- The failures and their order are this project's profile.
 use Rattle.std.specs.Prelude.{ℕ, ◌+◌, ◌%◌, ℤ, pos, ◌+ℤ◌, neg_ℤ, int_lt, int_le, Bool, true, false, not, List, filter, if◌then◌else◌, nat_le}
 use Rattle.std.specs.List.{find}
 use Rattle.std.specs.Int.{int_rem_euclid}
@@ -75,7 +77,8 @@ whole r = and_then r (λ n. Ok (pos n))
 -- a number, or the value of an own variable, which may be no direction
 abbrev pub dirterm_value : Sight → Names → tree.DirTerm → Result ℕ Failure
 dirterm_value s xs (tree.fixed n) = Ok n.value
-dirterm_value s xs (tree.held v) = and_then (s.reads None (var_number xs v)) (λ d. need (nat_le d 5) NoPort (Ok d))
+dirterm_value s xs (tree.held v) =
+    and_then (s.reads None (var_number xs v)) (λ d. need (nat_le d 5) NoPort (Ok d))
 
 abbrev mutual
   pub guard_value : Sight → Names → tree.Guard → Result Bool Failure
@@ -83,8 +86,10 @@ abbrev mutual
   guard_value s xs (tree.negation g) = and_then (guard_value s xs g) (λ b. Ok (not b))
   guard_value s xs (tree.conjunction gs) = each_value s xs gs
   guard_value s xs (tree.disjunction gs) = some_value s xs gs
-  guard_value s xs (tree.quantified tree.any v set g) = any_of_ports (λ p. guard_value s (bind xs v p) g) (ports_of s set)
-  guard_value s xs (tree.quantified tree.all v set g) = all_of_ports (λ p. guard_value s (bind xs v p) g) (ports_of s set)
+  guard_value s xs (tree.quantified tree.any v set g) =
+      any_of_ports (λ p. guard_value s (bind xs v p) g) (ports_of s set)
+  guard_value s xs (tree.quantified tree.all v set g) =
+      all_of_ports (λ p. guard_value s (bind xs v p) g) (ports_of s set)
   guard_value s xs (tree.tested t p) = and_then (port_value s xs p) (λ q. test_value s t q)
   guard_value s xs (tree.comparison a c b) =
       and_then (sum_value s xs a) (λ x. and_then (sum_value s xs b) (λ y. Ok (compare c x y)))
@@ -92,11 +97,13 @@ abbrev mutual
   -- `and` stops at the first false element, `or` at the first true one
   pub each_value : Sight → Names → tree.Guards → Result Bool Failure
   each_value s xs tree.no_guards = Ok true
-  each_value s xs (tree.guard_then g gs) = and_then (guard_value s xs g) (λ b. if b then each_value s xs gs else Ok false)
+  each_value s xs (tree.guard_then g gs) =
+      and_then (guard_value s xs g) (λ b. if b then each_value s xs gs else Ok false)
 
   pub some_value : Sight → Names → tree.Guards → Result Bool Failure
   some_value s xs tree.no_guards = Ok false
-  some_value s xs (tree.guard_then g gs) = and_then (guard_value s xs g) (λ b. if b then Ok true else some_value s xs gs)
+  some_value s xs (tree.guard_then g gs) =
+      and_then (guard_value s xs g) (λ b. if b then Ok true else some_value s xs gs)
 
   pub sum_value : Sight → Names → tree.Sum → Result ℤ Failure
   sum_value s xs tree.no_terms = Ok (pos 0)
@@ -106,8 +113,10 @@ abbrev mutual
   pub term_value : Sight → Names → tree.Term → Result ℤ Failure
   term_value s xs (tree.number n) = Ok (pos n.value)
   term_value s xs (tree.own v) = whole (s.reads None (var_number xs v))
-  term_value s xs (tree.of_port p v) = and_then (port_value s xs p) (λ q. whole (s.reads (Some q) (var_number xs v)))
-  term_value s xs (tree.count v set g) = whole (count_of_ports (λ p. guard_value s (bind xs v p) g) (ports_of s set))
+  term_value s xs (tree.of_port p v) =
+      and_then (port_value s xs p) (λ q. whole (s.reads (Some q) (var_number xs v)))
+  term_value s xs (tree.count v set g) =
+      whole (count_of_ports (λ p. guard_value s (bind xs v p) g) (ports_of s set))
   term_value s xs (tree.direction side p) = and_then (port_value s xs p) (λ q. whole (side_value s side q))
   term_value s xs tree.inner = whole (inner_value s.own)
   term_value s xs (tree.mod6 a) = and_then (sum_value s xs a) (λ x. Ok (int_rem_euclid x (pos 6)))
@@ -115,5 +124,6 @@ abbrev mutual
   pub port_value : Sight → Names → tree.PortExpr → Result Port Failure
   port_value s xs (tree.bound v) = Ok (port_named xs v)
   port_value s xs (tree.at_end e d) = and_then (dirterm_value s xs d) (λ i. Ok (port e i))
-  port_value s xs (tree.turned p n) = and_then (port_value s xs p) (λ q. Ok (port q.end ((q.dir + n.value) % 6)))
+  port_value s xs (tree.turned p n) =
+      and_then (port_value s xs p) (λ q. Ok (port q.end ((q.dir + n.value) % 6)))
   port_value s xs (tree.first v set g) = first_of_ports (λ p. guard_value s (bind xs v p) g) (ports_of s set)

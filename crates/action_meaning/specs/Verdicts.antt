@@ -1,5 +1,7 @@
--- What a program decides on an amoebot of a configuration. Guarded actions, of which one is run, are the paper's; that the first one in
--- the order of the text is run, and that a failure ends the activation, is this project's profile.
+-- What a program decides on an amoebot of a configuration.
+-- Guarded actions, of which one is run, are the paper's;
+-- that the first one in the order of the text is run, and that a failure ends the activation,
+-- is this project's profile.
 use Rattle.std.specs.Prelude.{ℕ, zero, suc, Bool, true, false, List, [], ◌∷◌}
 use Rattle.std.specs.declared.result.Result.{Result}
 use Rattle.std.specs.declared.result.Result.TheVariants.{Ok, Err}
@@ -47,10 +49,12 @@ action_effect guarded i a m =
 
 -- the verdict of the action with a number whose effect on c that is
 abbrev pub verdict_of_result : Config → ℕ → Result MadeMove Failure → Verdict
-verdict_of_result c number (Ok made) = verdict.Change (record { action = number; moved = made.moved; patch = diff c made.reached })
+verdict_of_result c number (Ok made) =
+    verdict.Change (record { action = number; moved = made.moved; patch = diff c made.reached })
 verdict_of_result c number (Err f) = verdict.Failed f
 
--- where its guard is true, an action decides by its effect; where it fails, by that; where it is false the later ones decide
+-- where its guard is true, an action decides by its effect; where it fails, by that;
+-- where it is false the later ones decide
 abbrev pub decided_by_guard : Result Bool Failure → Verdict → Verdict → Verdict
 decided_by_guard (Ok true) own later = own
 decided_by_guard (Ok false) own later = later
@@ -72,6 +76,7 @@ names_at_start p = record { vars = names_of_vars p.vars; bound = [] }
 abbrev pub verdict_on : Program → Config → ℕ → Verdict
 verdict_on p c i = actions_verdict p.guard (names_at_start p) c i zero p.actions
 
--- the same, decided on what the amoebot is shown: on the configuration that has what is shown and no other amoebot
+-- the same, decided on what the amoebot is shown: on the configuration that has
+-- what is shown and no other amoebot
 abbrev pub verdict_shown : Program → Shown → Verdict
 verdict_shown p s = verdict_on p (shown_alone s) s.bot

@@ -88,8 +88,8 @@ further_sign false = codes "+"
 
 -- ---- guards, sums, terms and ports
 
--- An element of an `or` that is an `or`, an element of an `and` that is an `or` or an `and`, and what a `not` negates
--- where it is an `or` or an `and` stand in parentheses.
+-- An element of an `or` that is an `or`, an element of an `and` that is an `or` or an `and`,
+-- and what a `not` negates where it is an `or` or an `and` stand in parentheses.
 abbrev mutual
   pub guard_words : Guard → Words
   guard_words (atom a) = atom_word a ∷ []

@@ -13,7 +13,8 @@ abbrev m : Term
 m = own (example_name (codes "m"))
 
 abbrev pub counting_guard : Guard
-counting_guard = and (or (own_is (codes "m") 0 ∷ own_is (codes "m") 1 ∷ []) ∷ negation (atom tree.contracted) ∷ [])
+counting_guard =
+    and (or (own_is (codes "m") 0 ∷ own_is (codes "m") 1 ∷ []) ∷ negation (atom tree.contracted) ∷ [])
 
 abbrev pub m_plus_one : Sum
 m_plus_one = term_then false m (sum_of_term (number (literal 1)))
@@ -46,29 +47,38 @@ line_program_text =
 abbrev erosion_text : List ℕ
 erosion_text =
     codes "program\nguard off\nvar cand 1\nvar leader 1\naction lead\n"
-    ++ codes "when cand = 1 and leader = 0 and not any p in ports ( p . cand = 1 )\ndo leader := 1\nmove none\n"
+    ++ codes "when cand = 1 and leader = 0 and not any p in ports ( p . cand = 1 )\n"
+    ++ codes "do leader := 1\nmove none\n"
     ++ codes "action erode\nwhen cand = 1 and count p in ports ( p . cand = 1 "
     ++ codes "and not ( linked turn p 1 and turn p 1 . cand = 1 ) ) = 1\ndo cand := 0\nmove none\nend\n"
 
 abbrev hexagon_text : List ℕ
 hexagon_text =
     codes "program\nguard off\nvar state 4\nvar parent 6\nvar aim 6\n"
-    ++ codes "action root\nwhen contracted and ( state = 0 or state = 2 ) and any p in ports ( p . state = 1 or p . state = 4 )\n"
+    ++ codes "action root\nwhen contracted and ( state = 0 or state = 2 ) "
+    ++ codes "and any p in ports ( p . state = 1 or p . state = 4 )\n"
     ++ codes "do parent := 6 ; state := 3\nmove none\n"
-    ++ codes "action follow\nwhen contracted and state = 0 and any p in ports ( p . state = 2 or p . state = 3 )\n"
-    ++ codes "do let q := first p in ports ( p . state = 2 or p . state = 3 ) ; parent := dir q ; state := 2\nmove none\n"
+    ++ codes "action follow\nwhen contracted and state = 0 and "
+    ++ codes "any p in ports ( p . state = 2 or p . state = 3 )\n"
+    ++ codes "do let q := first p in ports ( p . state = 2 "
+    ++ codes "or p . state = 3 ) ; parent := dir q ; state := 2\nmove none\n"
     ++ codes "action retire\n"
-    ++ codes "when contracted and state = 3 and any p in ports ( ( p . state = 1 or p . state = 4 ) and p . aim = peer_dir p )\n"
+    ++ codes "when contracted and state = 3 and any p in ports ( ( p . state = 1 "
+    ++ codes "or p . state = 4 ) and p . aim = peer_dir p )\n"
     ++ codes "do let q := first p in ports ( ( p . state = 1 or p . state = 4 ) "
     ++ codes "and not ( linked turn p 5 and ( turn p 5 . state = 1 or turn p 5 . state = 4 ) ) ) ; "
     ++ codes "aim := dir turn q 5 ; state := 4\nmove none\n"
-    ++ codes "action go\nwhen contracted and state = 3 and any p in ports ( ( p . state = 1 or p . state = 4 ) and free turn p 1 )\n"
+    ++ codes "action go\nwhen contracted and state = 3 and any p in ports "
+    ++ codes "( ( p . state = 1 or p . state = 4 ) and free turn p 1 )\n"
     ++ codes "move expand turn first p in ports ( ( p . state = 1 or p . state = 4 ) and free turn p 1 ) 1\n"
-    ++ codes "action drag\nwhen expanded and ( state = 2 or state = 3 ) and not any p in ports ( p . state = 0 ) and any p in ports ( "
+    ++ codes "action drag\nwhen expanded and ( state = 2 or state = 3 ) "
+    ++ codes "and not any p in ports ( p . state = 0 ) and any p in ports ( "
     ++ codes "not at_head p and p . state = 2 and not peer_expanded p and p . parent = peer_dir p )\n"
-    ++ codes "do let q := first p in ports ( not at_head p and p . state = 2 and not peer_expanded p and p . parent = peer_dir p ) ; "
+    ++ codes "do let q := first p in ports ( not at_head p and p . state = 2 "
+    ++ codes "and not peer_expanded p and p . parent = peer_dir p ) ; "
     ++ codes "q . parent := mod6 ( inner - dir q + peer_dir q + 3 )\nmove pull q\n"
-    ++ codes "action rest\nwhen expanded and ( state = 2 or state = 3 ) and not any p in ports ( p . state = 0 or "
+    ++ codes "action rest\nwhen expanded and ( state = 2 "
+    ++ codes "or state = 3 ) and not any p in ports ( p . state = 0 or "
     ++ codes "not at_head p and p . state = 2 and peer_head p and p . parent = peer_dir p )\n"
     ++ codes "move contract tail\nend\n"
 
@@ -78,9 +88,12 @@ every_sum_text = codes "- 1 + x - p . x + count p in ports ( true ) + dir p + pe
 abbrev every_form_text : List ℕ
 every_form_text =
     codes "program\nguard on\nvar x 1\naction a\n"
-    ++ codes "when true and contracted and expanded and not false or any p in ports ( linked p ) or all p in free ( free head 0 ) or "
-    ++ codes "at_head tail x or peer_expanded turn p 1 or peer_head first p in ports ( true ) or " ++ every_sum_text
-    ++ codes " = inner and inner != inner and inner < inner and inner <= inner and inner > inner and inner >= inner\n"
+    ++ codes "when true and contracted and expanded and not false or "
+    ++ codes "any p in ports ( linked p ) or all p in free ( free head 0 ) or "
+    ++ codes "at_head tail x or peer_expanded turn p 1 or peer_head first p in ports ( true ) or "
+    ++ every_sum_text
+    ++ codes " = inner and inner != inner and inner < inner "
+    ++ codes "and inner <= inner and inner > inner and inner >= inner\n"
     ++ codes "do x := " ++ every_sum_text
     ++ codes " ; p . x := inner ; let q := p ; if true then x := inner else x := inner fi ; "
     ++ codes "for p in ports ( true ) do x := inner od\nmove none\n"

@@ -11,7 +11,8 @@ use Rattle.action_tree.specs.Programs.{IsProgram}
 use Rattle.action_tree.specs.ProgramReaders.{a_program}
 use Rattle.action_print.specs.Canon.{canon}
 
--- The tokens are a text of the grammar within its limits, which stands for the same program, lines aside, and nothing stands behind it.
+-- The tokens are a text of the grammar within its limits, which stands for the same program,
+-- lines aside, and nothing stands behind it.
 pub record AreReadAs (p : Program) (ts : List Lexeme) (last : Refusal) : Type 0 where
   pub program : Program
   pub text : IsText IsProgram ts program []

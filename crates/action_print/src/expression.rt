@@ -81,7 +81,8 @@ pub fn put_guard(lines: &mut Lines, guard: &Guard) -> Result<(), AllocError>
 /// A guard as it stands, or in parentheses.
 #[cycle(expression)]
 fn put_element(lines: &mut Lines, guard: &Guard, stands: bool) -> Result<(), AllocError>
-    ensures { OnOk result (lines.new ≡ lines.old ++ spaced (parens_unless stands (guard_words (guard_of guard.now)))) }
+    ensures { OnOk result (
+        lines.new ≡ lines.old ++ spaced (parens_unless stands (guard_words (guard_of guard.now)))) }
 {
     if stands {
         return put_guard(lines, guard);
@@ -94,7 +95,8 @@ fn put_element(lines: &mut Lines, guard: &Guard, stands: bool) -> Result<(), All
 /// The elements of an `and`.
 #[cycle(expression)]
 fn put_units(lines: &mut Lines, elements: &[Guard]) -> Result<(), AllocError>
-    ensures { OnOk result (lines.new ≡ lines.old ++ spaced (joined (codes "and") (units (guards_of elements.now)))) }
+    ensures { OnOk result (
+        lines.new ≡ lines.old ++ spaced (joined (codes "and") (units (guards_of elements.now)))) }
 {
     for (place, guard) in elements.iter().enumerate() {
         put_between(lines, place, "and")?;
@@ -106,7 +108,8 @@ fn put_units(lines: &mut Lines, elements: &[Guard]) -> Result<(), AllocError>
 /// The elements of an `or`.
 #[cycle(expression)]
 fn put_conjs(lines: &mut Lines, elements: &[Guard]) -> Result<(), AllocError>
-    ensures { OnOk result (lines.new ≡ lines.old ++ spaced (joined (codes "or") (conjs (guards_of elements.now)))) }
+    ensures { OnOk result (
+        lines.new ≡ lines.old ++ spaced (joined (codes "or") (conjs (guards_of elements.now)))) }
 {
     for (place, guard) in elements.iter().enumerate() {
         put_between(lines, place, "or")?;
@@ -124,7 +127,8 @@ pub fn put_selection(
     asked: &Guard,
 ) -> Result<(), AllocError>
     ensures { OnOk result (lines.new
-        ≡ lines.old ++ spaced (selection_words (name_of name.now).text set (guard_words (guard_of asked.now)))) }
+        ≡ lines.old ++ spaced (
+        selection_words (name_of name.now).text set (guard_words (guard_of asked.now)))) }
 {
     put_name(lines, name)?;
     lines.word("in")?;

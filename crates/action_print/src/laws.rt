@@ -9,8 +9,9 @@ pub fn canon_is_pinned()
     ensures { CanonIsPinned }
 {}
 
-/// The canonical text of a program is a text of the grammar, which stands for the same program, lines aside. So it is read as that program.
-#[tactic(auto, using(crate::proofs::ProgramsRead::canon_reads_back, crate::proofs::ProgramsRead::canon_is_read))]
+/// The canonical text of a program is a text of the grammar, which stands for the same program,
+/// lines aside.
+/// So it is read as that program.
 pub fn canon_reads_back()
     ensures text { CanonReadsBack }
     ensures reader { CanonIsRead }

@@ -15,7 +15,8 @@ use amoebot_state::NoMemory;
 use std::alloc::{AllocError, Global};
 use text_tokens::{Lines, Text};
 
-/// The canonical text of a program, which is read back as that program, lines aside. Want of memory alone leaves none.
+/// The canonical text of a program, which is read back as that program, lines aside.
+/// Want of memory alone leaves none.
 pub fn print_program(alloc: Global, program: &Program) -> Result<Text, NoMemory>
     ensures text { IfOk result (λ text. text ≡ canon program.now) }
     ensures reads_back { IfOk result (λ text. ReadsBack program.now text) }
@@ -65,7 +66,8 @@ fn put_var(lines: &mut Lines, var: &Var) -> Result<(), AllocError>
 }
 
 fn put_actions(lines: &mut Lines, actions: &[Action]) -> Result<(), AllocError>
-    ensures { OnOk result (lines.new ≡ lines.old ++ lines_text (flat_map action_lines (map action_of actions.now))) }
+    ensures { OnOk result (
+        lines.new ≡ lines.old ++ lines_text (flat_map action_lines (map action_of actions.now))) }
 {
     for action in actions {
         put_action(lines, action)?;
@@ -84,7 +86,8 @@ fn put_action(lines: &mut Lines, action: &Action) -> Result<(), AllocError>
 }
 
 fn put_heading(lines: &mut Lines, name: &Word) -> Result<(), AllocError>
-    ensures { OnOk result (lines.new ≡ lines.old ++ line_text (codes "action" ∷ (name_of name.now).text ∷ [])) }
+    ensures { OnOk result (
+        lines.new ≡ lines.old ++ line_text (codes "action" ∷ (name_of name.now).text ∷ [])) }
 {
     lines.begin("action")?;
     put_name(lines, name)?;
@@ -92,7 +95,8 @@ fn put_heading(lines: &mut Lines, name: &Word) -> Result<(), AllocError>
 }
 
 fn put_when(lines: &mut Lines, guard: &Guard) -> Result<(), AllocError>
-    ensures { OnOk result (lines.new ≡ lines.old ++ line_text (codes "when" ∷ guard_words (guard_of guard.now))) }
+    ensures { OnOk result (
+        lines.new ≡ lines.old ++ line_text (codes "when" ∷ guard_words (guard_of guard.now))) }
 {
     lines.begin("when")?;
     put_guard(lines, guard)?;
@@ -100,7 +104,8 @@ fn put_when(lines: &mut Lines, guard: &Guard) -> Result<(), AllocError>
 }
 
 fn put_moved(lines: &mut Lines, moved: &Move) -> Result<(), AllocError>
-    ensures { OnOk result (lines.new ≡ lines.old ++ line_text (codes "move" ∷ move_words (move_of moved.now))) }
+    ensures { OnOk result (
+        lines.new ≡ lines.old ++ line_text (codes "move" ∷ move_words (move_of moved.now))) }
 {
     lines.begin("move")?;
     put_move(lines, moved)?;

@@ -1,4 +1,5 @@
-//! Texts of programs, and what the rules on names and ranges say of them. Each token that may be told stands on a line of its own.
+//! Texts of programs, and what the rules on names and ranges say of them.
+//! Each token that may be told stands on a line of its own.
 
 use text_tokens::RefusalKind::{self, BadRange, TwiceNamed, UnknownName, WrongType};
 
@@ -191,7 +192,8 @@ pub static STATEMENTS: [Judged; 21] = [
     ),
     // a `let` whose list is over
     (
-        "program var x 1\naction a when true do if true then let\nq := head\n0 else let\nq := head\n0 fi ;\nq .\nx := inner end",
+        "program var x 1\naction a when true do if true then let\n\
+        q := head\n0 else let\nq := head\n0 fi ;\nq .\nx := inner end",
         Some((7, UnknownName)),
     ),
     (
@@ -199,7 +201,8 @@ pub static STATEMENTS: [Judged; 21] = [
         Some((5, UnknownName)),
     ),
     (
-        "program var x 1\naction a when true do if true then let\nq := head\n0 else\nx := inner fi move push\nq end",
+        "program var x 1\naction a when true do if true then let\n\
+        q := head\n0 else\nx := inner fi move push\nq end",
         Some((6, UnknownName)),
     ),
     // the name of a `for`
@@ -221,7 +224,8 @@ pub static STATEMENTS: [Judged; 21] = [
     ),
     // behind its end
     (
-        "program var x 1\naction a when true do for\np in ports ( true ) do\nx := inner od ;\np .\nx := inner end",
+        "program var x 1\naction a when true do for\n\
+        p in ports ( true ) do\nx := inner od ;\np .\nx := inner end",
         Some((5, UnknownName)),
     ),
     (

@@ -1,4 +1,5 @@
-//! More texts of programs, and what the rules on names and ranges say of them: nothing, or the line and the kind of the first fault.
+//! More texts of programs, and what the rules on names and ranges say of them: nothing,
+//! or the line and the kind of the first fault.
 
 use crate::check_examples::Judged;
 use text_tokens::RefusalKind::{BadRange, TwiceNamed, UnknownName, WrongType};
@@ -164,7 +165,8 @@ pub static BOUND: [Judged; 31] = [
         None,
     ),
     (
-        "program\naction a when true do if true then let p := head 0 else let p := head 1 fi ; let p := head 2\nend",
+        "program\naction a when true do if true then \
+        let p := head 0 else let p := head 1 fi ; let p := head 2\nend",
         None,
     ),
     (
@@ -238,7 +240,8 @@ pub static USED: [Judged; 17] = [
     ),
     // one that is in force is bound again
     (
-        "program\nvar x 1\naction a when true do for p in ports ( true ) do x := count\np in ports ( true ) od\nend",
+        "program\nvar x 1\naction a when true do for p in ports ( true ) do x := count\n\
+        p in ports ( true ) od\nend",
         Some((4, TwiceNamed)),
     ),
     (

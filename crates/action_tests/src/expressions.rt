@@ -1,4 +1,5 @@
-//! Expressions, each on an amoebot of one shape, with its value or its failure, worked out by hand from the language's table of values.
+//! Expressions, each on an amoebot of one shape, with its value or its failure,
+//! worked out by hand from the language's table of values.
 //!
 //! The variables are x and y.
 //! Amoebot 0 is contracted on (3, 3).
@@ -345,8 +346,8 @@ static SUMS: [Asked; 44] = [
     ("- x <= - 4", 0, True),
 ];
 
-/// Comparisons that need no sum and the same with one, and ports that are a name or turned once and the same turned twice, all asked
-/// by amoebot 0.
+/// Comparisons that need no sum and the same with one, and ports that are a name or turned once
+/// and the same turned twice, all asked by amoebot 0.
 static IN_BOTH_FORMS: [(&'static str, &'static str, Value); 22] = [
     ("x = 4", "x + 0 = 4", True),
     ("x = 5", "x + 0 = 5", False),
@@ -412,7 +413,8 @@ static IN_BOTH_FORMS: [(&'static str, &'static str, Value); 22] = [
     ),
 ];
 
-/// Each expression has what the table says: its action is run and changes nothing, or it is not run, or the turn fails.
+/// Each expression has what the table says: its action is run and changes nothing,
+/// or it is not run, or the turn fails.
 fn are_valued(rt: &impl Abort, alloc: Global, table: &[Asked]) -> Result<(), Fail> {
     let world = world_of(alloc, [9, 9, 0, 0, 0, 0, 0, 0], &SHAPE)?;
     for asked in table {

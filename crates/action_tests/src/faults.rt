@@ -508,12 +508,14 @@ pub static PORT_FAULTS: [Fault; 23] = [
 pub static NAME_FAULTS: [Fault; 18] = [
     // the fifth name in force, by each kind of binding
     (
-        "program action a when any p in ports ( any q in ports ( any r in ports ( any s in ports (\nany p in ports ( true ) ) ) ) ) end",
+        "program action a when any p in ports ( any q in ports ( any r in ports ( any s in ports (\n\
+        any p in ports ( true ) ) ) ) ) end",
         2,
         TooMany,
     ),
     (
-        "program action a when any p in ports ( any q in ports ( any r in ports ( any s in ports (\nall\nt in ports ( true ) ) ) ) ) end",
+        "program action a when any p in ports ( any q in ports ( any r in ports ( any s in ports (\n\
+        all\nt in ports ( true ) ) ) ) ) end",
         3,
         TooMany,
     ),
@@ -530,7 +532,8 @@ pub static NAME_FAULTS: [Fault; 18] = [
         TooMany,
     ),
     (
-        "program action a when any p in ports ( any q in ports ( any r in ports ( any s in ports (\nany in ports ( true ) ) ) ) ) end",
+        "program action a when any p in ports ( any q in ports ( any r in ports ( any s in ports (\n\
+        any in ports ( true ) ) ) ) ) end",
         2,
         Unexpected,
     ),
@@ -545,22 +548,26 @@ pub static NAME_FAULTS: [Fault; 18] = [
         TooMany,
     ),
     (
-        "program action a when true do let p := p ; let q := p ; let r := p ; let s := p ;\nfor t in ports ( true ) do m := 0 od end",
+        "program action a when true do let p := p ; let q := p ; let r := p ; let s := p ;\n\
+        for t in ports ( true ) do m := 0 od end",
         2,
         TooMany,
     ),
     (
-        "program action a when true do let p := p ; let q := p ; let r := p ; let s := p ; m :=\ncount t in ports ( true ) end",
+        "program action a when true do let p := p ; let q := p ; let r := p ; let s := p ; m :=\n\
+        count t in ports ( true ) end",
         2,
         TooMany,
     ),
     (
-        "program action a when true do let p := p ; let q := p ; let r := p ; let s := p ; if true then\nlet t := p fi end",
+        "program action a when true do let p := p ; let q := p ; \
+        let r := p ; let s := p ; if true then\nlet t := p fi end",
         2,
         TooMany,
     ),
     (
-        "program action a when true do let p := p ; let q := p ; let r := p ; let s := p\nmove push first t in ports ( true ) end",
+        "program action a when true do let p := p ; let q := p ; let r := p ; let s := p\n\
+        move push first t in ports ( true ) end",
         2,
         TooMany,
     ),

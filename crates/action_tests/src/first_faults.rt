@@ -99,7 +99,8 @@ pub static FIRST_FAULTS: [Long; 34] = [
         Some((66, TooMany)),
     ),
     (
-        "program action a when true do {32:if true then }m := 0\n{63:; m := 0\n};\nfor p in ports ( true ) do m := 0 od",
+        "program action a when true do {32:if true then }m := 0\n\
+        {63:; m := 0\n};\nfor p in ports ( true ) do m := 0 od",
         Some((66, TooDeep)),
     ),
     (
@@ -128,11 +129,13 @@ pub static FIRST_FAULTS: [Long; 34] = [
     ),
     // a fifth name where no level is left, and behind statements that bind none
     (
-        "program action a when any p in ports ( any q in ports ( any r in ports ( any s in ports ( {28:( }any\nt in ports ( true )",
+        "program action a when any p in ports ( any q in ports ( any \
+        r in ports ( any s in ports ( {28:( }any\nt in ports ( true )",
         Some((2, TooMany)),
     ),
     (
-        "program action a when true do let p := p ; let q := p ; let r := p ; let s := p ; {32:if true then }\n\
+        "program action a when true do let p := p ; let q := p ; \
+        let r := p ; let s := p ; {32:if true then }\n\
          for t in ports ( true ) do m := 0 od",
         Some((2, TooDeep)),
     ),
@@ -141,7 +144,8 @@ pub static FIRST_FAULTS: [Long; 34] = [
         None,
     ),
     (
-        "program action a when true do let p := p ; let q := p ; let r := p ; let s := p\n{59:; m := 0\n}; let\nt := p end",
+        "program action a when true do let p := p ; let q := p ; let r := p ; let s := p\n\
+        {59:; m := 0\n}; let\nt := p end",
         Some((62, TooMany)),
     ),
 ];

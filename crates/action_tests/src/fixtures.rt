@@ -15,7 +15,8 @@ use std::test::Fail;
 use text_tokens::Tokens;
 use tri_lattice::{Area, Node};
 
-/// An amoebot by its head, its tail, its rotation, its chirality, and the values of its first three variables.
+/// An amoebot by its head, its tail, its rotation, its chirality,
+/// and the values of its first three variables.
 pub type Body = ((u8, u8), (u8, u8), u8, Chir, [u8; 3]);
 
 /// What a turn does. Of a change it is what the journal's entry says behind the amoebot's number.

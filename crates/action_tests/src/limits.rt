@@ -2,7 +2,8 @@
 
 use text_tokens::RefusalKind::{self, TooDeep, TooMany};
 
-/// The template of a long text, in which `{NUMBER:TEXT}` stands for a text so many times, and the line and the kind of its refusal.
+/// The template of a long text, in which `{NUMBER:TEXT}` stands for a text so many times,
+/// and the line and the kind of its refusal.
 /// `None` is read.
 pub type Long = (&'static str, Option<(u32, RefusalKind)>);
 
@@ -104,11 +105,13 @@ pub static LEVELS: [Long; 28] = [
         Some((2, TooDeep)),
     ),
     (
-        "program action a when true do {30:if true then }for p in ports ( true ) do\nif true then m := 0 fi od {30:fi }end",
+        "program action a when true do {30:if true then }for p in ports ( true ) do\n\
+        if true then m := 0 fi od {30:fi }end",
         None,
     ),
     (
-        "program action a when true do {31:if true then }for p in ports ( true ) do\nif true then m := 0 fi od {31:fi }end",
+        "program action a when true do {31:if true then }for p in ports ( true ) do\n\
+        if true then m := 0 fi od {31:fi }end",
         Some((1, TooDeep)),
     ),
     (

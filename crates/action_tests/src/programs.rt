@@ -1,4 +1,5 @@
-//! Small programs, each from a shape, with what each turn does and the shape behind them, written down beforehand.
+//! Small programs, each from a shape, with what each turn does and the shape behind them,
+//! written down beforehand.
 //!
 //! Amoebot 0 acts.
 //! Where nothing else is said it is contracted on (3, 3) and goes round as the plane does.
@@ -166,7 +167,8 @@ static GUARDED: [Run; 5] = [
             ((2, 4), (2, 4), 0, Plus, [0, 0, 0]),
         ],
     ),
-    // nor before a push: around (3, 3), which the neighbour leaves, the directions 0 and 3 alone are occupied
+    // nor before a push: around (3, 3), which the neighbour leaves,
+    // the directions 0 and 3 alone are occupied
     (
         "program guard on action a when true move push head 0 end",
         &[
@@ -373,7 +375,8 @@ static STATEMENTS: [Run; 6] = [
     ),
     // a pair that is no port may have a name, and fails where it is used
     (
-        "program var m 9 action a when m = 0 do let q := tail 4 ; m := 1 action b when m = 1 do let q := tail 4 ; q . m := 2 end",
+        "program var m 9 action a when m = 0 do let q := tail 4 ; m := 1 \
+        action b when m = 1 do let q := tail 4 ; q . m := 2 end",
         &[((3, 3), (3, 3), 0, Plus, [0, 0, 0])],
         &[
             (0, Done("0 none body 0 3 3 3 3 0 + 1")),
@@ -443,7 +446,8 @@ static LOOPS: [Run; 6] = [
             ((2, 4), (2, 4), 0, Plus, [0, 0, 0]),
         ],
     ),
-    // ports in their order: the last one is `head 1`, since the other nodes round (0, 0) are outside the area
+    // ports in their order: the last one is `head 1`, since the other nodes
+    // round (0, 0) are outside the area
     (
         "program var m 9 action a when true do for p in free ( true ) do m := dir p od end",
         &[((0, 0), (0, 0), 0, Plus, [0, 0, 0])],
@@ -467,7 +471,8 @@ static LOOPS: [Run; 6] = [
     ),
     // a condition that fails behind a turn that wrote
     (
-        "program var m 9 action a when true do for p in ports ( p . m = 0 or linked tail 0 ) do m := 1 od end",
+        "program var m 9 action a when true do \
+        for p in ports ( p . m = 0 or linked tail 0 ) do m := 1 od end",
         &[
             ((3, 3), (3, 3), 0, Plus, [0, 0, 0]),
             ((4, 3), (4, 3), 0, Plus, [0, 0, 0]),
@@ -482,7 +487,8 @@ static LOOPS: [Run; 6] = [
     ),
     // one `for` in another, with a name for the port of each
     (
-        "program var m 9 action a when true do for p in ports ( true ) do for q in ports ( dir q > dir p ) do \
+        "program var m 9 action a when true do for p in ports ( true ) \
+        do for q in ports ( dir q > dir p ) do \
          let r := q ; r . m := p . m + 1 od od end",
         &[
             ((3, 3), (3, 3), 0, Plus, [0, 0, 0]),
@@ -504,7 +510,8 @@ static LOOPS: [Run; 6] = [
 static ACTIONS: [Run; 5] = [
     // the first whose guard is true, and not the last
     (
-        "program var m 9 action a when false do m := 1 action b when true do m := 2 action c when true do m := 3 end",
+        "program var m 9 action a when false do m := 1 action b \
+        when true do m := 2 action c when true do m := 3 end",
         &[((3, 3), (3, 3), 0, Plus, [0, 0, 0])],
         &[(0, Done("1 none body 0 3 3 3 3 0 + 2"))],
         &[((3, 3), (3, 3), 0, Plus, [2, 0, 0])],
@@ -517,7 +524,8 @@ static ACTIONS: [Run; 5] = [
     ),
     // the first guard is false and the second one fails: the third is not asked
     (
-        "program var m 9 action a when false do m := 1 action b when linked tail 0 do m := 2 action c when true do m := 3 end",
+        "program var m 9 action a when false do m := 1 action b \
+        when linked tail 0 do m := 2 action c when true do m := 3 end",
         &[((3, 3), (3, 3), 0, Plus, [0, 0, 0])],
         &[(0, Failed(NoPort))],
         &[((3, 3), (3, 3), 0, Plus, [0, 0, 0])],

@@ -102,7 +102,8 @@ static DISC: [Body; 7] = [
     ((4, 2), (4, 2), 0, Plus, [1, 0, 0]),
 ];
 
-/// With the amoebot in the middle each of the ring stands at a border, and is eroded; the middle leads.
+/// With the amoebot in the middle each of the ring stands at a border, and is eroded;
+/// the middle leads.
 static DISC_ERODES: [Turn; 8] = [
     (0, Idle),
     (1, Done("1 none body 1 4 3 4 3 0 + 0 0")),
@@ -120,7 +121,8 @@ static ROW: [Body; 3] = [
     ((5, 3), (5, 3), 0, Plus, [0, 6, 6]),
 ];
 
-/// The amoebot beside the seed retires where it stands, and the third one goes round both to its place.
+/// The amoebot beside the seed retires where it stands,
+/// and the third one goes round both to its place.
 static HEXAGON_FORMS: [Turn; 45] = [
     (0, Idle),
     (1, Done("0 none body 1 4 3 4 3 0 + 3 6 6")),

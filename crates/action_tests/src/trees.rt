@@ -1,6 +1,7 @@
 //! Texts that the grammar reads, with their trees.
 
-/// A text that is read, with its tree. What stands on another line than the first has its line behind an `@`.
+/// A text that is read, with its tree.
+/// What stands on another line than the first has its line behind an `@`.
 pub type Read = (&'static str, &'static str);
 
 /// Programs, variables and movements.
@@ -182,7 +183,8 @@ pub static STATEMENT_TEXTS: [Read; 9] = [
     ),
     (
         "program action a when true do turn p 1 . x := 1 ; first p in ports ( true ) . x := 2 end",
-        "guard off; action a when true do (put_of (turn p 1) x 1) (put_of (first p ports true) x 2) move none",
+        "guard off; action a when true \
+        do (put_of (turn p 1) x 1) (put_of (first p ports true) x 2) move none",
     ),
     (
         "program action a when true do let q := first q in ports ( true ) ; q . x := 1 end",
@@ -194,7 +196,8 @@ pub static STATEMENT_TEXTS: [Read; 9] = [
     ),
     (
         "program action a when true do if true then x := 1 ; y := 2 else x := 2 fi ; z := 3 end",
-        "guard off; action a when true do (if true then (put x 1) (put y 2) else (put x 2)) (put z 3) move none",
+        "guard off; action a when true \
+        do (if true then (put x 1) (put y 2) else (put x 2)) (put z 3) move none",
     ),
 ];
 
@@ -213,42 +216,53 @@ pub static LONGER_TEXTS: [Read; 11] = [
         "guard off; action a when true do (for p free true do (for q free true do (put x 1))) move none",
     ),
     (
-        "program action a when true do if true then let p := p ; let q := p ; let r := p ; let s := p fi ; if true \
+        "program action a when true do if true then let p := p ; \
+        let q := p ; let r := p ; let s := p fi ; if true \
          then let p := p ; let q := p ; let r := p ; let s := p else let p := p ; let q := p ; let r := p ; \
          let s := p fi end",
-        "guard off; action a when true do (if true then (let p p) (let q p) (let r p) (let s p)) (if true then \
+        "guard off; action a when true \
+        do (if true then (let p p) (let q p) (let r p) (let s p)) (if true then \
          (let p p) (let q p) (let r p) (let s p) else (let p p) (let q p) (let r p) (let s p)) move none",
     ),
     (
         "program action a when true do for p in ports ( any q in ports ( any r in ports ( \
-         any s in ports ( true ) ) ) ) do let q := p ; let r := p ; let s := p od ; let p := p ; let q := p ; \
+         any s in ports ( true ) ) ) ) do let q := p ; \
+         let r := p ; let s := p od ; let p := p ; let q := p ; \
          let r := p ; let s := p end",
-        "guard off; action a when true do (for p ports (any q ports (any r ports (any s ports true))) do (let q p) \
+        "guard off; action a when true \
+        do (for p ports (any q ports (any r ports (any s ports true))) do (let q p) \
          (let r p) (let s p)) (let p p) (let q p) (let r p) (let s p) move none",
     ),
     (
-        "program action a when any p in ports ( any q in ports ( any r in ports ( any s in ports ( true ) ) ) ) and \
+        "program action a when any p in ports ( any q in ports \
+        ( any r in ports ( any s in ports ( true ) ) ) ) and \
          any p in ports ( all q in ports ( count r in ports ( linked first s in ports ( true ) ) = 1 ) ) end",
-        "guard off; action a when (and (any p ports (any q ports (any r ports (any s ports true)))) (any p ports \
+        "guard off; action a \
+        when (and (any p ports (any q ports (any r ports (any s ports true)))) (any p ports \
          (all q ports ((count r ports (linked (first s ports true))) = 1)))) move none",
     ),
     (
-        "program action a when true do let p := p ; let q := p ; let r := p move push first s in ports ( true ) end",
+        "program action a when true do let p := p ; let q := p ; \
+        let r := p move push first s in ports ( true ) end",
         "guard off; action a when true do (let p p) (let q p) (let r p) move (push (first s ports true))",
     ),
     (
-        "program action a when any p in ports ( any q in ports ( any r in ports ( any s in ports ( true ) ) ) ) do \
+        "program action a when \
+        any p in ports ( any q in ports ( any r in ports ( any s in ports ( true ) ) ) ) do \
          let p := p ; let q := p ; let r := p ; let s := p move push s action b when true do let p := p end",
         "guard off; action a when (any p ports (any q ports (any r ports (any s ports true)))) do (let p p) \
          (let q p) (let r p) (let s p) move (push s); action b when true do (let p p) move none",
     ),
     (
-        "program\nvar  m 3 action a when(m=0 or m=1)and not contracted\ndo m:=m+1;if m>2 then m:=0 fi move contract tail end",
-        "guard off; var m@2 3@2; action a@2 when (and (or (m@2 = 0@2) (m@2 = 1@2)) (not contracted)) do (put m@3 \
+        "program\nvar  m 3 action a when(m=0 or m=1)and not contracted\n\
+        do m:=m+1;if m>2 then m:=0 fi move contract tail end",
+        "guard off; var m@2 3@2; action a@2 \
+        when (and (or (m@2 = 0@2) (m@2 = 1@2)) (not contracted)) do (put m@3 \
          (sum + m@3 + 1@3)) (if (m@3 > 2@3) then (put m@3 0@3)) move (contract tail)",
     ),
     (
-        "program\nguard off\naction out\nwhen contracted and free head 0\nmove expand head 0\naction follow_up\n\
+        "program\nguard off\naction out\nwhen contracted and free head 0\n\
+        move expand head 0\naction follow_up\n\
          when expanded\nmove contract tail\nend\n",
         "guard off; action out@3 when (and contracted (free (head 0@4))) move (expand \
          (head 0@5)); action follow_up@6 when expanded move (contract tail)",
@@ -258,9 +272,11 @@ pub static LONGER_TEXTS: [Read; 11] = [
          when cand = 1 and leader = 0 and not any p in ports ( p . cand = 1 )\ndo leader := 1\naction erode\n\
          when cand = 1 and count p in ports ( p . cand = 1\n \
          and not ( linked turn p 1 and turn p 1 . cand = 1 ) ) = 1\ndo cand := 0\nend",
-        "guard off; var cand@3 1@3; var leader@4 1@4; action lead@5 when (and (cand@6 = 1@6) (leader@6 = 0@6) (not \
+        "guard off; var cand@3 1@3; var leader@4 1@4; action lead@5 \
+        when (and (cand@6 = 1@6) (leader@6 = 0@6) (not \
          (any p@6 ports ((of p@6 cand@6) = 1@6)))) do (put leader@7 1@7) move none; action erode@8 when (and \
-         (cand@9 = 1@9) ((count p@9 ports (and ((of p@9 cand@9) = 1@9) (not (and (linked (turn p@10 1@10)) ((of \
+         (cand@9 = 1@9) ((count p@9 ports (and ((of p@9 \
+         cand@9) = 1@9) (not (and (linked (turn p@10 1@10)) ((of \
          (turn p@10 1@10) cand@10) = 1@10))))) = 1@10)) do (put cand@11 0@11) move none",
     ),
 ];

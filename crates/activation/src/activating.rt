@@ -10,8 +10,9 @@ use commit_journal::commit;
 use node_claims::{Turn, place, release, release_settled, try_claim};
 use std::sync::Wait;
 
-/// The caller's next turn, whole: it claims the zone of its amoebot, calls the gate, decides on what it found, commits a change, and frees
-/// what it holds. Its body waits for other callers in the commit alone, and no clause says so.
+/// The caller's next turn, whole: it claims the zone of its amoebot, calls the gate,
+/// decides on what it found, commits a change, and frees what it holds.
+/// Its body waits for other callers in the commit alone, and no clause says so.
 pub fn activate<R: Wait, D: Decider, G: Gate>(
     rt: &R,
     field: &Field<'_, D>,

@@ -1,4 +1,6 @@
-/// What is called once in each turn whose whole zone was claimed, between the last claim and the decision. It has no answer.
+/// What is called once in each turn whose whole zone was claimed,
+/// between the last claim and the decision.
+/// It has no answer.
 pub trait Gate: Sync {
     fn claimed(&self, caller: u8, turn: u32);
 }

@@ -1,4 +1,5 @@
-//! The program: it does what its words ask for, reads a document from standard input, and writes the answer to standard output.
+//! The program: it does what its words ask for, reads a document from standard input,
+//! and writes the answer to standard output.
 #![tactic(auto)]
 
 use activation::NoGate;

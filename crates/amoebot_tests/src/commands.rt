@@ -1,4 +1,5 @@
-//! Documents of the other commands with what is written of them, programs that are shown, and words that are no command.
+//! Documents of the other commands with what is written of them, programs that are shown,
+//! and words that are no command.
 
 use amoebot_run::Status::{Differs, Done};
 use shared_tests::pieces::Row;
@@ -9,7 +10,8 @@ pub static SHOWN: [(&str, &str); 3] = [
         "hexagon",
         "amoebot 1\nprogram\nguard off\nvar state 4\nvar parent 6\nvar aim 6\n\
         action root\n\
-        when contracted and ( state = 0 or state = 2 ) and any p in ports ( p . state = 1 or p . state = 4 )\n\
+        when contracted and ( state = 0 or state = 2 ) and \
+        any p in ports ( p . state = 1 or p . state = 4 )\n\
         do parent := 6 ; state := 3\n\
         move none\n\
         action follow\n\
@@ -17,17 +19,20 @@ pub static SHOWN: [(&str, &str); 3] = [
         do let q := first p in ports ( p . state = 2 or p . state = 3 ) ; parent := dir q ; state := 2\n\
         move none\n\
         action retire\n\
-        when contracted and state = 3 and any p in ports ( ( p . state = 1 or p . state = 4 ) and p . aim = peer_dir p )\n\
+        when contracted and state = 3 and any p in ports ( ( p . state = 1 \
+        or p . state = 4 ) and p . aim = peer_dir p )\n\
         do let q := first p in ports ( ( p . state = 1 or p . state = 4 ) \
         and not ( linked turn p 5 and ( turn p 5 . state = 1 or turn p 5 . state = 4 ) ) ) ; \
         aim := dir turn q 5 ; state := 4\n\
         move none\n\
         action go\n\
-        when contracted and state = 3 and any p in ports ( ( p . state = 1 or p . state = 4 ) and free turn p 1 )\n\
+        when contracted and state = 3 and any p in ports ( ( p . state = 1 \
+        or p . state = 4 ) and free turn p 1 )\n\
         move expand turn first p in ports ( ( p . state = 1 or p . state = 4 ) and free turn p 1 ) 1\n\
         action drag\n\
         when expanded and ( state = 2 or state = 3 ) and not any p in ports ( p . state = 0 ) \
-        and any p in ports ( not at_head p and p . state = 2 and not peer_expanded p and p . parent = peer_dir p )\n\
+        and any p in ports ( not at_head p and p . state = 2 \
+        and not peer_expanded p and p . parent = peer_dir p )\n\
         do let q := first p in ports \
         ( not at_head p and p . state = 2 and not peer_expanded p and p . parent = peer_dir p ) ; \
         q . parent := mod6 ( inner - dir q + peer_dir q + 3 )\n\
@@ -46,7 +51,8 @@ pub static SHOWN: [(&str, &str); 3] = [
         do leader := 1\n\
         move none\n\
         action erode\n\
-        when cand = 1 and count p in ports ( p . cand = 1 and not ( linked turn p 1 and turn p 1 . cand = 1 ) ) = 1\n\
+        when cand = 1 and count p in ports ( p . cand = 1 and \
+        not ( linked turn p 1 and turn p 1 . cand = 1 ) ) = 1\n\
         do cand := 0\n\
         move none\n\
         end\n",
@@ -142,7 +148,8 @@ pub static INTERLEAVINGS: [Row; 4] = [
         Some(2),
         "journal\nentry 0 0 0 0 0 none body 0 2 3 2 3 0 + 1\nentry 1 1 1 1 0 none body 1 3 3 3 3 0 + 1\nend\n\
         final\narea 0 0 8 8\nbot 2 3 2 3 0 + 1\nbot 3 3 3 3 0 + 1\nend\n\
-        turns\nturn 0 0 done 0\nturn 0 1 idle 2\nturn 1 0 busy spot 3 3 by 0 0 0 place 0\nturn 1 1 done 1\nend\n",
+        turns\nturn 0 0 done 0\nturn 0 1 idle 2\n\
+        turn 1 0 busy spot 3 3 by 0 0 0 place 0\nturn 1 1 done 1\nend\n",
     ),
     // Each finds what the other holds.
     (

@@ -29,7 +29,8 @@ struct Case<'a> {
     text: &'a str,
 }
 
-/// Runs the document in pieces, of which one read fails, and compares the status and what is written.
+/// Runs the document in pieces, of which one read fails,
+/// and compares the status and what is written.
 fn check_read<R: Abort + Threads + Wait + Sync>(
     rt: &R,
     alloc: Global,
@@ -45,7 +46,8 @@ fn check_read<R: Abort + Threads + Wait + Sync>(
     Ok(())
 }
 
-/// Each read of the document fails in turn, the one that would tell the end too. The read behind that is never made.
+/// Each read of the document fails in turn, the one that would tell the end too.
+/// The read behind that is never made.
 fn check_each_read<R: Abort + Threads + Wait + Sync>(
     rt: &R,
     alloc: Global,
@@ -58,7 +60,8 @@ fn check_each_read<R: Abort + Threads + Wait + Sync>(
     check_read(rt, alloc, case, reads, case.status, case.text)
 }
 
-/// Runs the document into a sink of this room, of which one write fails, and compares the status and the bytes taken.
+/// Runs the document into a sink of this room, of which one write fails,
+/// and compares the status and the bytes taken.
 fn check_write<R: Abort + Threads + Wait + Sync>(
     rt: &R,
     alloc: Global,
@@ -237,7 +240,8 @@ fn each_failing_write_of_a_shown_program_gives_its_status(rt: HostRuntime) -> Re
     Ok(())
 }
 
-/// The first write, the fourth and the last one of seven. A call takes some time, since 16,000 turns are made.
+/// The first write, the fourth and the last one of seven.
+/// A call takes some time, since 16,000 turns are made.
 #[test]
 fn a_failing_write_of_a_sample_gives_its_status(rt: HostRuntime) -> Result<(), Fail> {
     let case = Case {
@@ -317,7 +321,8 @@ const OTHER_SHAPE: &str = "amoebot 1 program action out when contracted move exp
     journal entry 0 0 0 0 0 expand head 0 spot 3 3 0 body 0 3 3 2 3 0 + end \
     final area 0 0 8 8 bot 2 3 2 3 0 + end";
 
-/// A journal of one entry, whose amoebot was turned otherwise before. So nothing leads to its last shape.
+/// A journal of one entry, whose amoebot was turned otherwise before.
+/// So nothing leads to its last shape.
 const OTHER_TURN: &str = "amoebot 3 program action out when contracted move expand head 0 end \
     shape area 0 0 8 8 bot 2 3 2 3 0 + end \
     journal entry 0 0 0 0 0 expand head 0 spot 3 3 empty to 0 body 0 2 3 2 3 1 + to 3 3 2 3 0 + end \

@@ -1,8 +1,11 @@
 //! Documents that break off: each front of a right document, and what the definition says of it.
 //!
-//! A front ends between two tokens, and then it is Truncated at the end of the text, unless the document may end there.
-//! Or it ends inside a token. What is left of a number is a number, and what is left of another word is a name where a
-//! name may stand. Else that token is at fault.
+//! A front ends between two tokens, and then it is Truncated at the end of the text,
+//! unless the document may end there.
+//! Or it ends inside a token.
+//! What is left of a number is a number, and what is left of another word
+//! is a name where a name may stand.
+//! Else that token is at fault.
 
 use crate::commands::{COMPARED_AND_CHECKED, INTERLEAVINGS, MEASURED, SHOWN};
 use amoebot_run::Status;
@@ -17,13 +20,15 @@ use std::thread::Threads;
 use text_tokens::RefusalKind::{BadByte, Trailing, Truncated, Unexpected};
 use text_tokens::{Refusal, RefusalKind};
 
-/// How often the word `end` stands in a front with which the document may end, with the status, the entries and the text.
+/// How often the word `end` stands in a front with which the document may end, with the status,
+/// the entries and the text.
 type Whole<'a> = (u32, Status, Option<usize>, &'a str);
 
 /// The words of the language, none of which is a name.
 const RESERVED: &str =
     "amoebot program guard on off var action when do move end if then else fi for od let in ports free \
-    true false contracted expanded not and or any all count first head tail turn dir peer_dir peer_head peer_expanded \
+    true false contracted expanded not and or any all count \
+    first head tail turn dir peer_dir peer_head peer_expanded \
     at_head linked inner mod6 none expand contract push pull";
 
 /// The tokens of a program behind which a name may stand.
@@ -199,7 +204,8 @@ fn check_fronts<R: Threads + Wait + Sync>(
     Ok(())
 }
 
-/// Each front of a document that is whole behind its last `end` alone. The longest front lacks the last LF, and is whole.
+/// Each front of a document that is whole behind its last `end` alone.
+/// The longest front lacks the last LF, and is whole.
 fn check_row_by<R: Threads + Wait + Sync>(
     rt: &R,
     alloc: Global,

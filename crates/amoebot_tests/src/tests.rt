@@ -157,7 +157,8 @@ impl Source for FailingSource {
     }
 }
 
-/// A sink that takes ten bytes at a time, and fails after so many writes. It tells nothing of its calls.
+/// A sink that takes ten bytes at a time, and fails after so many writes.
+/// It tells nothing of its calls.
 #[derive(Drop)]
 struct FailingSink {
     good: u32,

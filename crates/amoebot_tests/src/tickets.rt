@@ -1,4 +1,5 @@
-//! The command `tickets`: documents of at most one list leave by it what they leave by `run`, and are refused as by `run`.
+//! The command `tickets`: documents of at most one list leave by it what they leave by `run`,
+//! and are refused as by `run`.
 
 use crate::faults::FAULTS;
 use crate::runs::{RUNS, WHOLE_PROGRAMS};

@@ -1,4 +1,5 @@
-//! Documents of version 2: worlds with walls, what an amoebot does beside one, and texts with walls that are refused.
+//! Documents of version 2: worlds with walls, what an amoebot does beside one,
+//! and texts with walls that are refused.
 
 use amoebot_run::Status::{Differs, Done};
 use shared_tests::calls::{check, check_faults, check_rows};
@@ -10,8 +11,9 @@ use std::thread::Threads;
 use test_texts::Piece;
 use text_tokens::RefusalKind::{BadRange, BadWall, OnWall, Unexpected};
 
-/// One turn of amoebot 0: the program between its first word and its last, the walls by rising number, and the amoebots, with bars between;
-/// how many entries there are; and the entry, the amoebots at the end, and the mark, with bars between.
+/// One turn of amoebot 0: the program between its first word and its last,
+/// the walls by rising number, and the amoebots, with bars between; how many entries there are;
+/// and the entry, the amoebots at the end, and the mark, with bars between.
 type Turn = (&'static str, usize, &'static str);
 
 /// Pieces of the turns.
@@ -58,7 +60,8 @@ static TURNS: [Turn; 18] = [
         1,
         "entry 0 0 0 0 0 expand head 0 spot 3 3 0 body 0 3 3 2 3 0 +\n|{LONG}|done 0",
     ),
-    // An expanded one does not expand, and a contracted one has no port at a tail: these come before the wall.
+    // An expanded one does not expand, and a contracted one has no port at a tail:
+    // these come before the wall.
     (
         "action out when true move expand head 0\n|wall 4 3\n|{LONG}",
         0,
@@ -117,13 +120,15 @@ static TURNS: [Turn; 18] = [
     (
         "action a when true move push head 0\n|{CORRIDOR}|bot 2 3 2 3 0 +\nbot 3 3 4 3 0 +\n",
         1,
-        "entry 0 0 0 0 0 push head 0 spot 3 3 0 body 0 3 3 2 3 0 + body 1 4 3 4 3 0 +\n|bot 3 3 2 3 0 +\nbot 4 3 4 3 0 +\n\
+        "entry 0 0 0 0 0 push head 0 spot 3 3 0 body 0 3 3 2 3 0 + body 1 4 3 4 3 0 +\n\
+        |bot 3 3 2 3 0 +\nbot 4 3 4 3 0 +\n\
         |done 0",
     ),
     (
         "action a when true move pull tail 3\n|{CORRIDOR}|{LONG_WITH_TAIL}",
         1,
-        "entry 0 0 0 0 0 pull tail 3 spot 2 3 1 body 0 3 3 3 3 0 + body 1 2 3 1 3 0 +\n|bot 3 3 3 3 0 +\nbot 2 3 1 3 0 +\n\
+        "entry 0 0 0 0 0 pull tail 3 spot 2 3 1 body 0 3 3 3 3 0 + body 1 2 3 1 3 0 +\n\
+        |bot 3 3 3 3 0 +\nbot 2 3 1 3 0 +\n\
         |done 0",
     ),
     // Walls on one side join no arc for the guard, and alone they are none.
@@ -133,7 +138,8 @@ static TURNS: [Turn; 18] = [
         "|{LONG_WITH_TAIL}|failed would_split 0",
     ),
     (
-        "guard on\naction a when expanded move contract tail\n|wall 2 2\nwall 3 2\nwall 4 2\nwall 1 3\nwall 4 3\nwall 1 4\n\
+        "guard on\naction a when expanded move contract tail\n\
+        |wall 2 2\nwall 3 2\nwall 4 2\nwall 1 3\nwall 4 3\nwall 1 4\n\
         wall 2 4\nwall 3 4\n|{LONG}",
         1,
         "entry 0 0 0 0 0 contract tail spot 2 3 empty body 0 3 3 3 3 0 +\n|bot 3 3 3 3 0 +\n|done 0",
@@ -146,24 +152,30 @@ pub static COMMANDS: [Row; 11] = [
     (
         "run",
         "amoebot 2\nprogram\naction a when any p in free ( true )\nend\n\
-        shape\narea 0 0 8 8\nwall 1 3\nwall 2 4\nwall 3 3\nwall 2 2\nwall 1 4\nwall 3 2\nbot 2 3 2 3 0 +\nend\n{ONE_TURN}",
+        shape\narea 0 0 8 8\nwall 1 3\nwall 2 4\nwall 3 3\nwall 2 2\n\
+        wall 1 4\nwall 3 2\nbot 2 3 2 3 0 +\nend\n{ONE_TURN}",
         Done,
         Some(0),
         "{NO_ENTRY}\
-        final\narea 0 0 8 8\nwall 2 2\nwall 3 2\nwall 1 3\nwall 3 3\nwall 1 4\nwall 2 4\nbot 2 3 2 3 0 +\nend\n\
+        final\narea 0 0 8 8\nwall 2 2\nwall 3 2\nwall 1 3\n\
+        wall 3 3\nwall 1 4\nwall 2 4\nbot 2 3 2 3 0 +\nend\n\
         turns\nturn 0 0 idle 0\nend\n",
     ),
-    // A wall is claimed as an empty node is: each caller makes as many steps as in a world without walls.
+    // A wall is claimed as an empty node is: each caller makes as many
+    // steps as in a world without walls.
     (
         "interleave",
         "{MARK_2}\
-        shape\narea 0 0 8 8\nwall 2 2\nwall 3 2\nwall 1 3\nwall 1 4\nwall 2 4\nbot 2 3 2 3 0 + 0\nbot 3 3 3 3 0 + 0\nend\n\
+        shape\narea 0 0 8 8\nwall 2 2\nwall 3 2\nwall 1 3\nwall 1 4\n\
+        wall 2 4\nbot 2 3 2 3 0 + 0\nbot 3 3 3 3 0 + 0\nend\n\
         {TWO_EACH}schedule 0 times 8 1 times 4 0 times 12 1 times 20 end\n",
         Done,
         Some(2),
         "journal\nentry 0 0 0 0 0 none body 0 2 3 2 3 0 + 1\nentry 1 1 1 1 0 none body 1 3 3 3 3 0 + 1\nend\n\
-        final\narea 0 0 8 8\nwall 2 2\nwall 3 2\nwall 1 3\nwall 1 4\nwall 2 4\nbot 2 3 2 3 0 + 1\nbot 3 3 3 3 0 + 1\nend\n\
-        turns\nturn 0 0 done 0\nturn 0 1 idle 2\nturn 1 0 busy spot 3 3 by 0 0 0 place 0\nturn 1 1 done 1\nend\n",
+        final\narea 0 0 8 8\nwall 2 2\nwall 3 2\nwall 1 3\nwall 1 4\n\
+        wall 2 4\nbot 2 3 2 3 0 + 1\nbot 3 3 3 3 0 + 1\nend\n\
+        turns\nturn 0 0 done 0\nturn 0 1 idle 2\n\
+        turn 1 0 busy spot 3 3 by 0 0 0 place 0\nturn 1 1 done 1\nend\n",
     ),
     // Caller 0 holds the wall between the two amoebots when caller 1 comes to it.
     (
@@ -181,7 +193,8 @@ pub static COMMANDS: [Row; 11] = [
     (
         "interleave",
         "{OUT_2}\
-        shape\narea 0 0 8 8\nwall 3 1\nwall 1 2\nwall 5 6\nwall 6 7\nbot 1 1 1 1 0 +\nbot 6 6 6 6 0 +\nend\n{ONE_EACH}\
+        shape\narea 0 0 8 8\nwall 3 1\nwall 1 2\nwall 5 6\n\
+        wall 6 7\nbot 1 1 1 1 0 +\nbot 6 6 6 6 0 +\nend\n{ONE_EACH}\
         schedule 1 times 10 end\n",
         Done,
         Some(2),
@@ -251,7 +264,8 @@ pub static COMMANDS: [Row; 11] = [
     (
         "measure",
         "{OUT_2}\
-        shape\narea 0 0 8 8\nwall 3 3\nbot 4 3 4 3 0 +\nbot 3 4 3 4 0 +\nbot 2 4 2 4 0 +\nbot 2 3 2 3 0 +\nbot 3 2 3 2 0 +\n\
+        shape\narea 0 0 8 8\nwall 3 3\nbot 4 3 4 3 0 +\nbot 3 4 3 4 0 +\n\
+        bot 2 4 2 4 0 +\nbot 2 3 2 3 0 +\nbot 3 2 3 2 0 +\n\
         bot 4 2 4 2 0 +\nend\n",
         Done,
         None,

@@ -1,5 +1,6 @@
--- What a program of two actions decides: an expanded amoebot drags a contracted neighbour behind it by a Pull, and notes that it is
--- expanded where there is none. Support of tests, and no part of the model.
+-- What a program of two actions decides: an expanded amoebot drags a contracted neighbour behind
+-- it by a Pull, and notes that it is expanded where there is none.
+-- Support of tests, and no part of the model.
 use Rattle.std.specs.Prelude.{ℕ, pos, Bool, true, false, if◌then◌else◌}
 use Rattle.std.specs.declared.option.Option.TheVariants.{None}
 use Rattle.std.specs.declared.result.Result.{Result}
@@ -35,11 +36,13 @@ by_link p c i (Err f) = verdict.Failed f
 by_link p c i (Ok true) = by_peer p c i (peer c i p)
 by_link p c i (Ok false) = note c i
 
--- what the program decides on an amoebot of a configuration: drag when expanded, linked and the peer behind the port is not expanded;
--- else note when expanded; a contracted amoebot is idle
+-- what the program decides on an amoebot of a configuration: drag when expanded,
+-- linked and the peer behind the port is not expanded; else note when expanded;
+-- a contracted amoebot is idle
 abbrev pub dragging : Port → Config → ℕ → Verdict
 dragging p c i = if is_contracted (bot_of c i) then verdict.Idle else by_link p c i (connected c i p)
 
--- the same, decided on what the amoebot is shown: on the configuration that has what is shown and no other amoebot
+-- the same, decided on what the amoebot is shown: on the configuration that has
+-- what is shown and no other amoebot
 abbrev pub dragging_shown : Port → Shown → Verdict
 dragging_shown p s = dragging p (shown_alone s) s.bot

@@ -1,4 +1,5 @@
--- The decider of the program of Dragging makes its changes by acts, so it keeps the laws of deciders.
+-- The decider of the program of Dragging makes its changes by acts,
+-- so it keeps the laws of deciders.
 -- These are terms, since a decider gives its laws as ghost items. Support of tests, as Dragging is.
 use Rattle.std.specs.Prelude.{◌≡◌, ◌∷◌, [], pos, Bool, true, false, if◌then◌else◌}
 use Rattle.std.specs.declared.option.Option.TheVariants.{None}
@@ -26,11 +27,14 @@ abbrev pub pulling : Port → Acts
 pulling p = record { writes = []; guard = true; moved = moved.Pull p }
 
 abbrev pub noting : Acts
-noting = record { writes = record { port = None; var = 0; value = pos 1 } ∷ []; guard = true; moved = moved.None }
+noting =
+    record { writes = record { port = None; var = 0; value = pos 1 } ∷ []; guard = true; moved = moved.None }
 
 -- acts with one write and no movement perform that write
-pub performs_note : (r : Result Config Failure) (d : Config) → r ≡ Ok d → and_then (and_then r (λ e. Ok e)) (λ e. Ok e) ≡ Ok d
-performs_note r d e = ap (λ (x : Result Config Failure). and_then (and_then x (λ (e : Config). Ok e)) (λ (e : Config). Ok e)) e
+pub performs_note : (r : Result Config Failure) (d : Config)
+    → r ≡ Ok d → and_then (and_then r (λ e. Ok e)) (λ e. Ok e) ≡ Ok d
+performs_note r d e =
+    ap (λ (x : Result Config Failure). and_then (and_then x (λ (e : Config). Ok e)) (λ (e : Config). Ok e)) e
 
 drag_made : (p : Port) (s : Shown) → MadeByActs s (drag p (shown_alone s) s.bot)
 drag_made p s = made s 0 (moved.Pull p) (pulling p) (pull (shown_alone s) s.bot p) (λ d e. e)
@@ -40,15 +44,18 @@ note_made s =
     let r = write (shown_alone s) s.bot None 0 (pos 1) in
     made s 1 moved.None noting r (performs_note r)
 
-by_peer_made : (p : Port) (s : Shown) (r : Result Peer Failure) → MadeByActs s (by_peer p (shown_alone s) s.bot r)
+by_peer_made : (p : Port) (s : Shown) (r : Result Peer Failure)
+    → MadeByActs s (by_peer p (shown_alone s) s.bot r)
 by_peer_made p s (Err f) = tt
 by_peer_made p s (Ok seen) = chosen seen.expanded
   where
-    chosen : (t : Bool) → MadeByActs s (if t then note (shown_alone s) s.bot else drag p (shown_alone s) s.bot)
+    chosen : (t : Bool)
+        → MadeByActs s (if t then note (shown_alone s) s.bot else drag p (shown_alone s) s.bot)
     chosen true = note_made s
     chosen false = drag_made p s
 
-by_link_made : (p : Port) (s : Shown) (r : Result Bool Failure) → MadeByActs s (by_link p (shown_alone s) s.bot r)
+by_link_made : (p : Port) (s : Shown) (r : Result Bool Failure)
+    → MadeByActs s (by_link p (shown_alone s) s.bot r)
 by_link_made p s (Err f) = tt
 by_link_made p s (Ok true) = by_peer_made p s (peer (shown_alone s) s.bot p)
 by_link_made p s (Ok false) = note_made s

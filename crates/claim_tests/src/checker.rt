@@ -17,8 +17,9 @@ struct Judge<'a, D: Decider> {
     turns: &'a Marks,
 }
 
-/// Whether the report is a good one of callers with these lists over the world, and callers who claim cells in zone order
-/// can have met as its Busy say: at places and in turns that allow it, and at a cell that the other turn can have held.
+/// Whether the report is a good one of callers with these lists over the world,
+/// and callers who claim cells in zone order can have met as its Busy say:
+/// at places and in turns that allow it, and at a cell that the other turn can have held.
 pub fn is_report<D: Decider>(
     alloc: Global,
     decider: &D,
@@ -76,7 +77,8 @@ impl<D: Decider> Judge<'_, D> {
         }
     }
 
-    /// Whether each entry is one of a turn of the lists, and the turns of one caller rise strictly along the journal.
+    /// Whether each entry is one of a turn of the lists, and the turns of one caller
+    /// rise strictly along the journal.
     fn has_order(&self) -> bool {
         for (place, entry) in self.entries.iter().enumerate() {
             if self.bot(entry.caller, entry.turn) != Some(entry.bot) {
@@ -122,7 +124,8 @@ impl<D: Decider> Judge<'_, D> {
         Ok(Some(serial.into_world()))
     }
 
-    /// Whether the mark of a turn is right, and its place no less than what the caller has seen by its earlier turn.
+    /// Whether the mark of a turn is right, and its place no less than what
+    /// the caller has seen by its earlier turn.
     fn is_right(&self, alloc: Global, caller: u8, turn: u32) -> Result<bool, Fail> {
         let (Some(bot), Some(mark)) = (self.bot(caller, turn), self.mark(caller, turn)) else {
             return Ok(false);
@@ -166,7 +169,8 @@ impl<D: Decider> Judge<'_, D> {
         }
     }
 
-    /// Whether a turn that looked at a place can have met a turn of another caller: neither had begun when the other one was over.
+    /// Whether a turn that looked at a place can have met a turn of another caller:
+    /// neither had begun when the other one was over.
     fn can_meet(&self, caller: u8, turn: u32, place: u32, by_caller: u8, by_turn: u32) -> bool {
         by_caller != caller
             && self.seen_before(by_caller, by_turn) <= place
@@ -181,7 +185,8 @@ impl<D: Decider> Judge<'_, D> {
         }
     }
 
-    /// The least place at which a turn can begin: that of the mark of the caller's turn before, and above it where that is Done.
+    /// The least place at which a turn can begin: that of the mark of the caller's turn before,
+    /// and above it where that is Done.
     fn seen_before(&self, caller: u8, turn: u32) -> u32 {
         if turn == 0 {
             return 0;
@@ -193,7 +198,8 @@ impl<D: Decider> Judge<'_, D> {
         }
     }
 
-    /// The greatest place at which a turn can hold cells: that of the mark of the caller's next turn, or the last place.
+    /// The greatest place at which a turn can hold cells:
+    /// that of the mark of the caller's next turn, or the last place.
     fn seen_after(&self, caller: u8, turn: u32) -> u32 {
         match self.mark(caller, turn.saturating_add(1)) {
             Some(mark) => place_of(mark),
@@ -201,7 +207,8 @@ impl<D: Decider> Judge<'_, D> {
         }
     }
 
-    /// Whether a turn can have held a cell: it is in the amoebot's zone at the place of the turn's mark.
+    /// Whether a turn can have held a cell: it is in the amoebot's zone
+    /// at the place of the turn's mark.
     /// Where the turn was refused a cell itself, the cell also stands before that one.
     fn may_hold(
         &self,
@@ -280,8 +287,9 @@ fn zone_place(world: &World, bot: u16, cell: CellName) -> Option<usize> {
         .position(|other| *other == cell)
 }
 
-/// The zone of an amoebot: its body, its head, its tail, the nodes behind its ports in port order that lie in the area, and the bodies
-/// of the amoebots on these nodes; each cell once.
+/// The zone of an amoebot: its body, its head, its tail,
+/// the nodes behind its ports in port order that lie in the area,
+/// and the bodies of the amoebots on these nodes; each cell once.
 fn zone_of(world: &World, bot: u16) -> Zone
     requires { bot < length world.now.bots }
 {

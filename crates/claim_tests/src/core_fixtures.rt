@@ -11,8 +11,8 @@ use std::alloc::Global;
 use std::test::Fail;
 use tri_lattice::Area;
 
-/// The program of two actions of an expanded amoebot: `drag`, when a contracted neighbour is behind a port, pulls it; else `note` sets
-/// variable 0 to 1.
+/// The program of two actions of an expanded amoebot: `drag`,
+/// when a contracted neighbour is behind a port, pulls it; else `note` sets variable 0 to 1.
 pub struct Dragger {
     pub port: Port,
 }

@@ -102,7 +102,8 @@ const DONE_0: Mark = Mark::Done { place: 0 };
 
 const DONE_1: Mark = Mark::Done { place: 1 };
 
-/// The marks of a turn that was refused a cell by turn 0 of the caller and amoebot of the other number.
+/// The marks of a turn that was refused a cell by turn 0 of the caller
+/// and amoebot of the other number.
 const BUSY_AT_1: Mark = Mark::Busy {
     cell: AT_1,
     by_caller: 0,
@@ -127,7 +128,8 @@ const BUSY_AT_1_BY_1: Mark = Mark::Busy {
     place: 0,
 };
 
-/// The marks of a turn that was refused the body of amoebot 0 by turn 0 of caller 0, before the first entry and behind it.
+/// The marks of a turn that was refused the body of amoebot 0 by turn 0 of caller 0,
+/// before the first entry and behind it.
 const BUSY_AT_BODY: Mark = Mark::Busy {
     cell: CellName::Body(0),
     by_caller: 0,
@@ -212,7 +214,8 @@ const FAR: Place = ((6, 6), (6, 6), 0);
 
 const FAR_SPREAD: Place = ((7, 6), (6, 6), 0);
 
-/// The zone of amoebot 0, far from all others, as it claims it, and once it has expanded into the node to its right.
+/// The zone of amoebot 0, far from all others, as it claims it,
+/// and once it has expanded into the node to its right.
 const NEAR_ZONE: &[Seen] = &[
     Seen::Body(0, NEAR),
     Seen::Spot(1, 1, Some(0)),
@@ -319,7 +322,8 @@ fn a_try_for_a_taken_journal_is_made_again(rt: HostRuntime) -> Result<(), Fail> 
     check_case(&rt, rt.alloc(), &EXPANDER, &TRIES_MEET)
 }
 
-/// Caller 1 is refused its own body, as long as caller 0 holds it. When it has ended, its steps change nothing.
+/// Caller 1 is refused its own body, as long as caller 0 holds it.
+/// When it has ended, its steps change nothing.
 static OWN_BODY_REFUSED: Case = Case {
     bots: &[LEFT, RIGHT],
     turns: 2,
@@ -354,8 +358,9 @@ fn a_caller_refused_at_its_own_body_goes_on_until_it_has_ended(
     check_case(&rt, rt.alloc(), &Marker, &OWN_BODY_REFUSED)
 }
 
-/// The zone of amoebot 0 with its head at (2, 1) and its tail at (1, 1): its own nodes, those behind the ports of its head, of which that
-/// in direction 3 is none, and those behind the ports of its tail that are new.
+/// The zone of amoebot 0 with its head at (2, 1) and its tail at (1, 1): its own nodes,
+/// those behind the ports of its head, of which that in direction 3 is none,
+/// and those behind the ports of its tail that are new.
 const WIDE_ZONE: &[Seen] = &[
     Seen::Body(0, NEAR_SPREAD),
     Seen::Spot(2, 1, Some(0)),
@@ -412,10 +417,12 @@ const TAIL_3: Port = Port {
     dir: 3,
 };
 
-/// The program that pulls a contracted amoebot behind tail 3, and else notes that its own is expanded.
+/// The program that pulls a contracted amoebot behind tail 3,
+/// and else notes that its own is expanded.
 const DRAGGER: Dragger = Dragger { port: TAIL_3 };
 
-/// Amoebot 0 with its head at (3, 3) and its tail at (2, 3), and amoebot 1 behind it, which it pulls.
+/// Amoebot 0 with its head at (3, 3) and its tail at (2, 3), and amoebot 1 behind it,
+/// which it pulls.
 const DRAGGING: Place = ((3, 3), (2, 3), 0);
 
 const DRAGGED: Place = ((1, 3), (1, 3), 0);
@@ -438,9 +445,10 @@ const ZONE_BEFORE_PULL: &[Seen] = &[
     Seen::Body(0, DRAGGING),
 ];
 
-/// The cells that amoebot 0 is shown with its head at (3, 3) and its tail at (2, 3): its own nodes, those behind the ports of its head, of
-/// which that in direction 3 is none, those behind the ports of its tail that are new, and amoebot 1. The pull changes the value of three
-/// of them: both bodies, and who is on (2, 3).
+/// The cells that amoebot 0 is shown with its head at (3, 3) and its tail at (2, 3): its own nodes,
+/// those behind the ports of its head, of which that in direction 3 is none,
+/// those behind the ports of its tail that are new, and amoebot 1.
+/// The pull changes the value of three of them: both bodies, and who is on (2, 3).
 const ZONE_OF_PULL: &[Seen] = &[
     Seen::Body(0, DRAGGING),
     Seen::Spot(3, 3, Some(0)),
@@ -471,7 +479,8 @@ const ZONE_OF_PULL_LEFT: &[Seen] = &[
     Seen::Body(1, PULLED),
 ];
 
-/// The zone of amoebot 1 with its head at (2, 3) and its tail at (1, 3), in the same way, with its value of variable 0.
+/// The zone of amoebot 1 with its head at (2, 3) and its tail at (1, 3), in the same way,
+/// with its value of variable 0.
 const ZONE_AFTER_PULL: &[Seen] = &[
     Seen::Body(1, PULLED),
     Seen::Spot(2, 3, Some(1)),
@@ -502,7 +511,8 @@ const ZONE_AFTER_PULL_LEFT: &[Seen] = &[
     Seen::Body(0, RIGHT),
 ];
 
-/// Caller 1 finds its amoebot contracted, and nine cells. Caller 0 pulls it, and then caller 1 finds it expanded, and twelve cells.
+/// Caller 1 finds its amoebot contracted, and nine cells.
+/// Caller 0 pulls it, and then caller 1 finds it expanded, and twelve cells.
 static PULLED_BETWEEN: Case = Case {
     bots: &[DRAGGING, DRAGGED],
     turns: 2,
@@ -658,7 +668,8 @@ fn with_no_list_or_no_turn_all_have_ended_at_once(rt: HostRuntime) -> Result<(),
 
 const EDGE: Place = ((7, 3), (7, 3), 0);
 
-/// The zone of amoebot 2 at (7, 3). The nodes behind its ports head 0 and head 5 lie outside the area.
+/// The zone of amoebot 2 at (7, 3).
+/// The nodes behind its ports head 0 and head 5 lie outside the area.
 const EDGE_ZONE: &[Seen] = &[
     Seen::Body(2, EDGE),
     Seen::Spot(7, 3, Some(2)),

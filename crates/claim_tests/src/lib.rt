@@ -1,4 +1,5 @@
-//! Tests of the claim protocol as a machine: cores and their reports, and a plain checker of reports.
+//! Tests of the claim protocol as a machine: cores and their reports,
+//! and a plain checker of reports.
 #![tactic(auto)]
 
 mod checker;

@@ -166,7 +166,8 @@ fn the_checker_passes_what_amoebots_that_want_one_node_leave(rt: HostRuntime) ->
         (3, &[&[0, 2], &[1], &[3, 0, 1]]),
     )?;
     assert!(rt; tally.done > 0 && tally.idle > 0 && tally.failed > 0 && tally.busy > 0);
-    // In each of the runs only one of two can enter the node, and the others are before the edge and before an amoebot.
+    // In each of the runs only one of two can enter the node,
+    // and the others are before the edge and before an amoebot.
     assert!(rt; tally.done <= 70);
     Ok(())
 }

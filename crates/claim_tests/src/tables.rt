@@ -26,9 +26,11 @@ pub enum Doing {
     Ended,
 }
 
-/// Steps of one caller, one after another: the caller; the turn and the amoebot at which it is after each of them; what it does next;
-/// which list of cells it then holds a front of, with the values that it recorded; how many of them after the first step, and after
-/// the last one, where the number rises or falls by one at each step.
+/// Steps of one caller, one after another: the caller;
+/// the turn and the amoebot at which it is after each of them; what it does next;
+/// which list of cells it then holds a front of, with the values that it recorded;
+/// how many of them after the first step, and after the last one,
+/// where the number rises or falls by one at each step.
 #[derive(Clone, Copy)]
 pub struct Steps(
     pub u8,
@@ -138,8 +140,8 @@ impl<'a> Stands<'a> {
         }
     }
 
-    /// Whether the core of so many callers stands so: turns, phases, held cells with what was recorded, the journal's holder, and the tag
-    /// of each cell.
+    /// Whether the core of so many callers stands so: turns, phases,
+    /// held cells with what was recorded, the journal's holder, and the tag of each cell.
     fn are_of<D: Decider>(&self, core: &Core<'_, D>, callers: u8) -> bool
         requires { length core.now.state.callers ≡ callers }
     {
@@ -225,7 +227,8 @@ fn doing_of(phase: &Phase) -> Doing {
     }
 }
 
-/// The cell with a number: the nodes of the area in the order of their numbers, then the bodies by their ids.
+/// The cell with a number: the nodes of the area in the order of their numbers,
+/// then the bodies by their ids.
 fn cell_at(area: &Area, number: usize) -> CellName {
     let nodes = area.size() as usize;
     if number < nodes {
@@ -259,8 +262,10 @@ pub struct Case {
     pub last: &'static [Place],
 }
 
-/// The callers of the case make the steps of its table and then the rounds of `finish`. After each of those steps the core is compared
-/// with the table, and at the end the report with the case. A step of a caller that has ended then changes nothing more.
+/// The callers of the case make the steps of its table and then the rounds of `finish`.
+/// After each of those steps the core is compared with the table,
+/// and at the end the report with the case.
+/// A step of a caller that has ended then changes nothing more.
 pub fn check_case<D: Decider>(
     rt: &impl Abort,
     alloc: Global,

@@ -6,7 +6,8 @@ use std::alloc::Global;
 use std::test::Fail;
 use tri_lattice::Node;
 
-/// What a report says of a turn: a mark by its parts in their order, where a failure is that of the edge.
+/// What a report says of a turn: a mark by its parts in their order,
+/// where a failure is that of the edge.
 #[derive(Clone, Copy)]
 enum Said {
     Done(u32),
@@ -36,7 +37,8 @@ enum Entries {
     Misread,
 }
 
-/// A report of callers 0 and 1 with the lists 0 1 and 1 and two turns each, in the world of two amoebots side by side whose variable is 0:
+/// A report of callers 0 and 1 with the lists 0 1 and 1 and two turns each,
+/// in the world of two amoebots side by side whose variable is 0:
 /// its entries; the two marks of caller 0 and those of caller 1; the last values of the variable.
 #[derive(Clone, Copy)]
 struct Case(Entries, Said, Said, Said, Said, u8, u8);
@@ -48,8 +50,9 @@ const AT_1: CellName = CellName::Spot(Node { x: 3, y: 3 });
 
 const FAR: CellName = CellName::Spot(Node { x: 6, y: 6 });
 
-/// Caller 0 commits its turns while caller 1 is refused in its first turn; caller 1 finds both amoebots set. And: each is refused in its
-/// first turn by the other, and then caller 0 commits.
+/// Caller 0 commits its turns while caller 1 is refused in its first turn;
+/// caller 1 finds both amoebots set.
+/// And: each is refused in its first turn by the other, and then caller 0 commits.
 static RIGHT: [Case; 2] = [
     Case(
         Entries::Both,
@@ -283,7 +286,8 @@ fn mark_of(said: Said) -> Mark {
     }
 }
 
-/// The entry of a turn of caller 0 in which an amoebot sets its variable, which had this value before.
+/// The entry of a turn of caller 0 in which an amoebot sets its variable,
+/// which had this value before.
 fn entry(turn: u32, bot: u16, before: u8) -> Entry {
     let x = if bot == 0 { 2 } else { 3 };
     let mut patch = Patch::new();

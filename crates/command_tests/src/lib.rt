@@ -1,4 +1,5 @@
-//! Tests of the parts of commands: where bytes come from and go to, words, samples, and runs of small documents.
+//! Tests of the parts of commands: where bytes come from and go to, words, samples,
+//! and runs of small documents.
 #![tactic(auto)]
 
 #[cfg(test)]

@@ -190,7 +190,8 @@ fn far_world(alloc: Global, entries: u32) -> Result<World, Fail> {
     world_of(alloc, &[first, second])
 }
 
-/// Behind how many entries the first world stands and behind how many the last one; and whether both entries are a run between them.
+/// Behind how many entries the first world stands and behind how many the last one;
+/// and whether both entries are a run between them.
 static PLACES: [(u32, u32, Result<(), Differs>); 3] = [
     (0, 2, Ok(())),
     // The final shape is another one than the last world: the number of entries.
@@ -279,8 +280,9 @@ fn a_journal_without_old_values_is_followed_or_differs(rt: HostRuntime) -> Resul
     Ok(())
 }
 
-/// Behind how many entries the first world stands, how many of the entries follow, and behind how many the last world stands; and how many
-/// rounds have ended and how many amoebots wait.
+/// Behind how many entries the first world stands, how many of the entries follow,
+/// and behind how many the last world stands; and how many rounds have
+/// ended and how many amoebots wait.
 static COUNTS: [(u32, usize, u32, Result<RoundCount, Differs>); 5] = [
     // Both have acted, and both rest at the end.
     (

@@ -15,7 +15,8 @@ fn size_of(read: Result<Document, ReadError>) -> Result<usize, ReadError> {
     }
 }
 
-/// The limit of a reading of ten bytes in pieces of three, the number of the read that fails, and what comes of it.
+/// The limit of a reading of ten bytes in pieces of three, the number of the read that fails,
+/// and what comes of it.
 static READS: [(u32, u32, Result<usize, ReadError>); 9] = [
     (9, 9, Err(ReadError::TooLong)),
     (10, 9, Ok(10)),

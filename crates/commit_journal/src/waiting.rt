@@ -11,9 +11,10 @@ use std::thread;
 /// How many looks in a row may find the journal taken before the next try.
 const LOOKS: usize = 64;
 
-/// One try to commit the change that was decided on what the claim found: the journal is taken, and free
-/// again with the entry. The claim and the change come back as they were where another caller has the
-/// journal in a sound state of the machine.
+/// One try to commit the change that was decided on what the claim found: the journal is taken,
+/// and free again with the entry.
+/// The claim and the change come back as they were where another caller has the journal
+/// in a sound state of the machine.
 pub fn try_commit<D: Decider>(
     field: &Field<'_, D>,
     claimed: Claimed<D>,
@@ -22,7 +23,8 @@ pub fn try_commit<D: Decider>(
     requires field { IsOf field.now claimed }
     requires change { IsToTake claimed change }
     ensures done { IfOk result (λ done. HasStored D.verdict claimed done.0 change done.1) }
-    ensures busy { IfErr result (λ back. (back.0 ≡ claimed) × (back.1 ≡ change) × IsTakenElsewhere D.verdict claimed.view) }
+    ensures busy { IfErr result (λ back.
+        (back.0 ≡ claimed) × (back.1 ≡ change) × IsTakenElsewhere D.verdict claimed.view) }
 {
     match take(claimed, field, change) {
         Ok(taken) => Ok(store(taken, field)),
@@ -30,9 +32,11 @@ pub fn try_commit<D: Decider>(
     }
 }
 
-/// Commits the change that was decided on what the claim found: it tries until it has stored the entry.
-/// Before each try it gives way while the journal looks taken. Its body waits while another caller has the
-/// journal, which is for two steps, and no clause says so.
+/// Commits the change that was decided on what the claim found:
+/// it tries until it has stored the entry.
+/// Before each try it gives way while the journal looks taken.
+/// Its body waits while another caller has the journal, which is for two steps,
+/// and no clause says so.
 pub fn commit<R: Wait, D: Decider>(
     rt: &R,
     field: &Field<'_, D>,
@@ -59,9 +63,9 @@ pub fn commit<R: Wait, D: Decider>(
     unreachable!()
 }
 
-/// Gives way to other threads while the journal looks taken. Looks leave the word with the processor that
-/// has the journal, which tries would not. Nothing is promised of a look, so their number is bounded, and a
-/// try follows whatever they saw.
+/// Gives way to other threads while the journal looks taken.
+/// Looks leave the word with the processor that has the journal, which tries would not.
+/// Nothing is promised of a look, so their number is bounded, and a try follows whatever they saw.
 fn give_way<D: Decider>(field: &Field<'_, D>) {
     for _ in 0..LOOKS {
         if !field.is_journal_taken() {

@@ -33,7 +33,8 @@ pub struct Run {
     pub leader: Option<u16>,
 }
 
-/// The first ask whose answer is another one than the run's, or their number, where the leader is another one.
+/// The first ask whose answer is another one than the run's, or their number,
+/// where the leader is another one.
 pub fn first_difference(alloc: Global, run: &Run) -> Result<Option<usize>, Fail> {
     if run.asks.len() > 1000 {
         Err("a long run")?;
@@ -64,7 +65,8 @@ fn take_step(election: &mut Election, bot: u16, action: u8) -> bool
     election.step(&entry).is_ok()
 }
 
-/// The entry in which an amoebot does an action: `lead` puts 1 into its variable 1, and `erode` puts 0 into its variable 0.
+/// The entry in which an amoebot does an action: `lead` puts 1 into its variable 1,
+/// and `erode` puts 0 into its variable 0.
 fn entry_of(bot: u16, before: &Bot, action: u8) -> Entry
     ensures { result.bot ≡ bot }
 {

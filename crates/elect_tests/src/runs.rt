@@ -1,5 +1,7 @@
-//! Runs of `erosion` from small starts. Steps, candidates and leaders were worked out by hand: an amoebot may give up where the
-//! candidates round it are one arc, with a gap, and may lead where there is none.
+//! Runs of `erosion` from small starts.
+//! Steps, candidates and leaders were worked out by hand:
+//! an amoebot may give up where the candidates round it are one arc, with a gap,
+//! and may lead where there is none.
 
 use crate::elections::{ERODE, LEAD, Run, first_difference};
 use amoebot_state::Chir::{Minus, Plus};
@@ -165,7 +167,8 @@ static RING_WITH_TAIL: Run = Run {
     leader: None,
 };
 
-/// The ring gives up, and the one in the middle leads. At first it has a full ring, which has no end.
+/// The ring gives up, and the one in the middle leads.
+/// At first it has a full ring, which has no end.
 static HEXAGON: Run = Run {
     places: &[
         (3, 3, 0, Plus),
@@ -190,7 +193,8 @@ static HEXAGON: Run = Run {
     leader: Some(0),
 };
 
-/// The same shape, where each looks another way. Once the ring is open, the one in the middle gives up.
+/// The same shape, where each looks another way.
+/// Once the ring is open, the one in the middle gives up.
 static HEXAGON_TURNED: Run = Run {
     places: &[
         (3, 3, 2, Minus),
@@ -216,7 +220,8 @@ static HEXAGON_TURNED: Run = Run {
     leader: Some(4),
 };
 
-/// The hexagon with a tail of one at amoebot 1, which has two arcs until the ring has given up beside it.
+/// The hexagon with a tail of one at amoebot 1, which has two arcs until
+/// the ring has given up beside it.
 static HEXAGON_WITH_TAIL: Run = Run {
     places: &[
         (3, 3, 0, Plus),

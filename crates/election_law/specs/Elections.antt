@@ -1,5 +1,6 @@
--- The leader election by erosion. The algorithm is the literature's; its variables, and how `cand` and `leader` are read off, are this
--- project's profile.
+-- The leader election by erosion.
+-- The algorithm is the literature's; its variables, and how `cand` and `leader` are read off,
+-- are this project's profile.
 use Rattle.std.specs.Prelude.{◌≡◌, ℕ, Bool, false, IsTrue, IsSome, slice_index}
 use Rattle.std.specs.List.{position}
 use Rattle.std.specs.declared.option.Option.{Option}
@@ -58,8 +59,8 @@ pub record IsReadyStart (c : Config) : Type 0 where
   pub each : (i : ℕ) (b : Bot) → bot_at c i ≡ Some b → IsReadyBot b
   pub connected : IsConnected (occupied c)
 
--- at least one amoebot is a candidate, the nodes of the candidates are connected, at most one amoebot is the leader, and one that is the
--- leader is the only candidate
+-- at least one amoebot is a candidate, the nodes of the candidates are connected,
+-- at most one amoebot is the leader, and one that is the leader is the only candidate
 pub record IsElected (c : Config) : Type 0 where
   pub some : (i : ℕ) × IsTrue (is_candidate c i)
   pub connected : IsConnected (candidate_at c)

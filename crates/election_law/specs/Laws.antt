@@ -15,8 +15,9 @@ use Rattle.election_law.specs.Starts.{IsFirstUnready}
 abbrev pub GuardIsAside : Type 0
 GuardIsAside = (p : Program) → IsErosion p → (c : Config) (i : ℕ) → verdict_on p c i ≡ verdict_on erosion c i
 
--- each world of each run of `erosion` from a valid ready start is elected. The world at a place of entries is the one that so many of them
--- are a run to, so the last world of a run is among them
+-- each world of each run of `erosion` from a valid ready start is elected.
+-- The world at a place of entries is the one that so many of them are a run to,
+-- so the last world of a run is among them
 abbrev pub ErosionElects : Type 0
 ErosionElects =
     (p : Program) (first : Config) (es : List Entry) (place : ℕ) (world : Config)
@@ -32,7 +33,8 @@ LeaderIsElected = (c : Config) (i : ℕ) → IsElected c → (leader_of c ≡ So
 
 -- at most one refusal is the first
 abbrev pub FirstUnreadyIsUnique : Type 0
-FirstUnreadyIsUnique = (c : Config) (one two : ElectRefusal) → IsFirstUnready c one → IsFirstUnready c two → one ≡ two
+FirstUnreadyIsUnique =
+    (c : Config) (one two : ElectRefusal) → IsFirstUnready c one → IsFirstUnready c two → one ≡ two
 
 -- a ready start has none
 abbrev pub ReadyHasNone : Type 0

@@ -50,4 +50,5 @@ only_put variable n = stmts (put (example_name variable) (sum_of_term (number (l
 
 -- an action that puts a number into an own variable, and does nothing else
 abbrev pub putting : List ℕ → Guard → List ℕ → ℕ → Action
-putting name asked variable n = record { name = example_name name; guard = asked; body = only_put variable n; moved = no_move }
+putting name asked variable n =
+    record { name = example_name name; guard = asked; body = only_put variable n; moved = no_move }

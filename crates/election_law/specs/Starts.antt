@@ -17,13 +17,15 @@ stands_ready b = nat_eq (slice_index b.mem cand_var) 1 && nat_eq (slice_index b.
 
 -- what an amoebot with an id is refused for: it is expanded; else it is not ready
 abbrev pub bot_unready : ℕ → Bot → Option ElectRefusal
-bot_unready i b = if not (is_contracted b) then Some (NotContracted i) else (if stands_ready b then None else Some (NotReady i))
+bot_unready i b = if not (is_contracted b) then Some (NotContracted i)
+    else (if stands_ready b then None else Some (NotReady i))
 
 -- each amoebot with an id below that one is refused for nothing
 abbrev pub AreReadyBelow : Config → ℕ → Type 0
 AreReadyBelow c i = (j : ℕ) (a : Bot) → j < i → bot_at c j ≡ Some a → bot_unready j a ≡ None
 
--- the first refusal of a start: that there is no amoebot; else that of the first id that has one; else that the shape is not connected
+-- the first refusal of a start: that there is no amoebot; else that of the first id that has one;
+-- else that the shape is not connected
 pub data IsFirstUnready (c : Config) : ElectRefusal → Type 0 where
   nobody : ((i : ℕ) → bot_at c i ≡ None) → IsFirstUnready c Empty
   unready : (i : ℕ) (b : Bot) (e : ElectRefusal)

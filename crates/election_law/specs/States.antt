@@ -18,7 +18,8 @@ pub record ElectionState : Type 0 where
 abbrev pub election_code : Coded ElectionState
 election_code =
     code_by (Program × (Config × ℕ)) (coded× program_code (coded× worlds.the_row.coded coded_ℕ))
-    (λ e. (e.program, (e.world, e.steps))) (λ p. record { program = p.0; world = p.1.0; steps = p.1.1 }) (λ _. refl)
+    (λ e. (e.program, (e.world, e.steps)))
+    (λ p. record { program = p.0; world = p.1.0; steps = p.1.1 }) (λ _. refl)
 
 -- a world of an election: it is valid and elected, and each amoebot has one node
 pub record IsElection (c : Config) : Type 0 where

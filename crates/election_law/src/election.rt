@@ -21,7 +21,8 @@ use shape_checks::count_value;
 use std::alloc::Global;
 use std::marker::Model;
 
-/// A run of `erosion` from a ready start, one entry at a time. In each of its worlds at most one amoebot is the leader.
+/// A run of `erosion` from a ready start, one entry at a time.
+/// In each of its worlds at most one amoebot is the leader.
 #[derive(Drop)]
 pub struct Election {
     runner: Runner,
@@ -43,17 +44,21 @@ impl Model for Election {
 }
 
 impl Election {
-    /// An election that begins at this world, before any step. The program is `erosion`, and the world has its maxima.
+    /// An election that begins at this world, before any step.
+    /// The program is `erosion`, and the world has its maxima.
     ///
-    /// Otherwise it returns the first that holds of these: `Empty`, there is no amoebot; for rising ids `NotContracted`, and `NotReady`,
-    /// its `cand` is not 1 or its `leader` is not 0; `NotConnected`. `NoMemory` may come once each amoebot is ready. Program and
-    /// world are dropped then.
+    /// Otherwise it returns the first that holds of these: `Empty`, there is no amoebot;
+    /// for rising ids `NotContracted`, and `NotReady`, its `cand` is not 1
+    /// or its `leader` is not 0; `NotConnected`.
+    /// `NoMemory` may come once each amoebot is ready.
+    /// Program and world are dropped then.
     pub fn open(alloc: Global, runner: Runner, start: World) -> Result<Election, ElectRefusal>
         requires program { IsErosion runner }
         requires maxes { start.maxes ≡ maxes_of runner }
         ensures open { IfOk result (λ e. e ≡ record { program = runner; world = start; steps = 0 }) }
         ensures ready { OnOk result (IsReadyStart start) }
-        ensures refused { IfErr result (λ e. IsFirstUnready start e ⊎ ((e ≡ refusal.NoMemory) × AreBotsReady start)) }
+        ensures refused { IfErr result (λ e.
+            IsFirstUnready start e ⊎ ((e ≡ refusal.NoMemory) × AreBotsReady start)) }
     {
         start.keeps();
         check_start(alloc, &start)?;
@@ -71,16 +76,19 @@ impl Election {
         &self.runner
     }
 
-    /// Makes the step of an entry, whose amoebot is one of the world's. `Differs` tells how many steps were made, where the entry is
-    /// no step from the world; nothing changes then.
+    /// Makes the step of an entry, whose amoebot is one of the world's.
+    /// `Differs` tells how many steps were made, where the entry is no step from the world;
+    /// nothing changes then.
     pub fn step(&mut self, entry: &Entry) -> Result<(), Differs>
         requires there { entry.now.bot < length self.old.world.bots }
         requires few { self.old.steps + 1 < 2 ^ 32 }
-        ensures step { OnOk result (Step (verdict_shown self.old.program) self.old.world entry.now self.new.world) }
+        ensures step { OnOk result (
+            Step (verdict_shown self.old.program) self.old.world entry.now self.new.world) }
         ensures steps { OnOk result (self.new.steps ≡ self.old.steps + 1) }
         ensures program { self.new.program ≡ self.old.program }
         ensures place { IfErr result (λ e. e.place ≡ self.old.steps) }
-        ensures none { OnErr result (IsNoStep full_entry (verdict_shown self.old.program) self.old.world entry.now) }
+        ensures none { OnErr result (
+            IsNoStep full_entry (verdict_shown self.old.program) self.old.world entry.now) }
         ensures stays { OnErr result (self.new ≡ self.old) }
         ensures size { length self.new.world.bots ≡ length self.old.world.bots }
     {
@@ -92,11 +100,13 @@ impl Election {
     pub fn step_in<E: EntryForm>(&mut self, told: &E) -> Result<(), Differs>
         requires there { E.bot told.now < length self.old.world.bots }
         requires few { self.old.steps + 1 < 2 ^ 32 }
-        ensures step { OnOk result (StepIn E.form (verdict_shown self.old.program) self.old.world told.now self.new.world) }
+        ensures step { OnOk result (
+            StepIn E.form (verdict_shown self.old.program) self.old.world told.now self.new.world) }
         ensures steps { OnOk result (self.new.steps ≡ self.old.steps + 1) }
         ensures program { self.new.program ≡ self.old.program }
         ensures place { IfErr result (λ e. e.place ≡ self.old.steps) }
-        ensures none { OnErr result (IsNoStep E.form (verdict_shown self.old.program) self.old.world told.now) }
+        ensures none { OnErr result (
+            IsNoStep E.form (verdict_shown self.old.program) self.old.world told.now) }
         ensures stays { OnErr result (self.new ≡ self.old) }
         ensures size { length self.new.world.bots ≡ length self.old.world.bots }
     {

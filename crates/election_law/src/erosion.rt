@@ -48,13 +48,15 @@ fn has_actions(actions: &[Action]) -> bool
 }
 
 fn is_lead(action: &Action) -> bool
-    ensures { Decides result (bare_action (view.action_of action.now) ≡ putting (codes "lead") guard_of_lead (codes "leader") 1) }
+    ensures { Decides result (
+        bare_action (view.action_of action.now) ≡ putting (codes "lead") guard_of_lead (codes "leader") 1) }
 {
     is_name(&action.name, "lead") && is_lead_guard(&action.guard) && puts(action, "leader", 1)
 }
 
 fn is_erode(action: &Action) -> bool
-    ensures { Decides result (bare_action (view.action_of action.now) ≡ putting (codes "erode") guard_of_erode (codes "cand") 0) }
+    ensures { Decides result (
+        bare_action (view.action_of action.now) ≡ putting (codes "erode") guard_of_erode (codes "cand") 0) }
 {
     is_name(&action.name, "erode") && is_erode_guard(&action.guard) && puts(action, "cand", 0)
 }
@@ -149,8 +151,10 @@ fn is_cand_next(guard: &Guard) -> bool
 
 /// The port of `PORT . cand = 1`.
 fn asked_port(guard: &Guard) -> Option<&PortExpr>
-    ensures some { IfSome result (λ port. bare_guard (view.guard_of guard.now) ≡ asks_cand (bare_port (view.port_of port.now))) }
-    ensures none { IfNone result ((port : tree.PortExpr) → bare_guard (view.guard_of guard.now) ≢ asks_cand port) }
+    ensures some { IfSome result (λ port.
+        bare_guard (view.guard_of guard.now) ≡ asks_cand (bare_port (view.port_of port.now))) }
+    ensures none { IfNone result ((port : tree.PortExpr)
+        → bare_guard (view.guard_of guard.now) ≢ asks_cand port) }
 {
     match guard {
         Guard::Compare(left, Cmp::Eq, right) if is_number_sum(right, 1) => {
@@ -163,7 +167,8 @@ fn asked_port(guard: &Guard) -> Option<&PortExpr>
 
 /// The port of `PORT . cand`.
 fn cand_port(term: &Term) -> Option<&PortExpr>
-    ensures some { IfSome result (λ port. bare_term (view.term_of term.now) ≡ cand_of (bare_port (view.port_of port.now))) }
+    ensures some { IfSome result (λ port.
+        bare_term (view.term_of term.now) ≡ cand_of (bare_port (view.port_of port.now))) }
     ensures none { IfNone result ((port : tree.PortExpr) → bare_term (view.term_of term.now) ≢ cand_of port) }
 {
     match term {

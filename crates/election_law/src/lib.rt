@@ -1,4 +1,5 @@
-//! The leader election by erosion: in every world of every run of `erosion` from a ready start, at most one amoebot is the leader.
+//! The leader election by erosion: in every world of every run of `erosion` from a ready start,
+//! at most one amoebot is the leader.
 #![tactic(auto)]
 
 mod election;

@@ -34,7 +34,8 @@ pub(crate) fn is_named_port(port: &PortExpr, name: &str) -> bool
 
 /// The port is the one that this name stands for, turned by so many directions.
 pub(crate) fn is_turned_port(port: &PortExpr, name: &str, by: u32) -> bool
-    ensures { Decides result (bare_port (view.port_of port.now) ≡ tree.turned (tree.bound (example_name name.now)) (literal by)) }
+    ensures { Decides result (
+        bare_port (view.port_of port.now) ≡ tree.turned (tree.bound (example_name name.now)) (literal by)) }
 {
     match port {
         PortExpr::Turn(inner, number) => is_named_port(inner, name) && is_number(number, by),
@@ -57,7 +58,8 @@ pub(crate) fn only_term(sum: &Sum) -> Option<&Term>
 
 /// The term of a part without a minus.
 fn plain_term(part: &Part) -> Option<&Term>
-    ensures some { IfSome result (λ term. view.part_of part.now ≡ record { minus = false; term = view.term_of term.now }) }
+    ensures some { IfSome result (λ term.
+        view.part_of part.now ≡ record { minus = false; term = view.term_of term.now }) }
     ensures none { IfNone result ((view.part_of part.now).minus ≡ true) }
 {
     if part.minus { None } else { Some(&part.term) }
@@ -85,7 +87,8 @@ fn is_number_term(term: &Term, value: u32) -> bool
 
 /// The sum is this own variable alone.
 fn is_own_sum(sum: &Sum, name: &str) -> bool
-    ensures { Decides result (bare_sum (view.sum_of sum.now) ≡ sum_of_term (tree.own (example_name name.now))) }
+    ensures { Decides result (
+        bare_sum (view.sum_of sum.now) ≡ sum_of_term (tree.own (example_name name.now))) }
 {
     match only_term(sum) {
         Some(term) => is_own_term(term, name),
@@ -117,7 +120,8 @@ pub(crate) fn is_own_comparison(guard: &Guard, name: &str, value: u32) -> bool
 /// The statement puts this number into this own variable.
 pub(crate) fn is_put_number(stmt: &Stmt, name: &str, value: u32) -> bool
     ensures { Decides result
-        (bare_stmt (view.stmt_of stmt.now) ≡ tree.put (example_name name.now) (sum_of_term (tree.number (literal value)))) }
+        (bare_stmt (view.stmt_of stmt.now)
+        ≡ tree.put (example_name name.now) (sum_of_term (tree.number (literal value)))) }
 {
     match stmt {
         Stmt::Put(word, sum) => is_name(word, name) && is_number_sum(sum, value),

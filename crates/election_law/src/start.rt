@@ -17,7 +17,8 @@ const CAND: usize = 0;
 /// Whether the world is a ready start: else its first refusal, or that there was not enough memory.
 pub(crate) fn check_start(alloc: Global, world: &World) -> Result<(), ElectRefusal>
     ensures ready { OnOk result (IsReadyStart world.now) }
-    ensures refused { IfErr result (λ e. IsFirstUnready world.now e ⊎ ((e ≡ refusal.NoMemory) × AreBotsReady world.now)) }
+    ensures refused { IfErr result (λ e.
+        IsFirstUnready world.now e ⊎ ((e ≡ refusal.NoMemory) × AreBotsReady world.now)) }
 {
     world.keeps();
     if world.bots() == 0 {

@@ -1,5 +1,5 @@
--- Support of tests, and no part of the model: deciders that mark an amoebot if so many of the others that it is shown have a value, with
--- the proofs that they keep the laws of deciders.
+-- Support of tests, and no part of the model: deciders that mark an amoebot if so many
+-- of the others that it is shown have a value, with the proofs that they keep the laws of deciders.
 use Rattle.std.proofs.Common.{◌≡◌, ◌&&◌, ℕ, Bool, true, false, not, nat_eq}
 use Rattle.std.specs.Prelude.{nat_le, slice_index, if◌then◌else◌}
 use Rattle.std.specs.List.{count_by}

@@ -7,7 +7,8 @@ ghost use Rattle.explain_tests.specs.Choosing.{is_other_with};
 use amoebot_state::{Cell, CellName, Decider, Found, Verdict};
 use small_worlds::Marker;
 
-/// Sets variable 0 from 0 to 1 if at least and at most so many of the others that it is shown have this value in it.
+/// Sets variable 0 from 0 to 1 if at least and at most so many of the others
+/// that it is shown have this value in it.
 #[derive(Clone, Copy, Drop)]
 pub struct Choosing {
     pub value: u8,

@@ -1,5 +1,5 @@
-//! How often the meter asks among 1,000 amoebots, by entries with their old values and by entries without
-//! them.
+//! How often the meter asks among 1,000 amoebots, by entries with their old
+//! values and by entries without them.
 ghost use Rattle.std.specs.Prelude.{◌≡◌, ◌≤◌, ◌<◌, ◌+◌, ◌^◌, IfOk, OnOk};
 ghost use Rattle.std.specs.List.{All};
 ghost use Rattle.amoebot_state.specs.Refusals.{IsBotInRange};
@@ -15,8 +15,9 @@ use std::alloc::Global;
 use std::process::Abort;
 use std::test::Fail;
 
-/// A turn of an amoebot. Whether it has an entry, for which each of two meters takes at most so many
-/// decisions: the first one is fed with it, and the other one follows it without its old values.
+/// A turn of an amoebot.
+/// Whether it has an entry, for which each of two meters takes at most so many decisions:
+/// the first one is fed with it, and the other one follows it without its old values.
 fn take_turn<R: Abort, D: Decider>(
     rt: &R,
     decider: &Counting<D>,
@@ -66,8 +67,9 @@ fn take_turns<R: Abort, D: Decider>(
     Ok(entries)
 }
 
-/// Each start took a decision for each amoebot. Each in turn acts once, if it can, and each entry takes
-/// each meter at most so many decisions. There are so many entries.
+/// Each start took a decision for each amoebot.
+/// Each in turn acts once, if it can, and each entry takes each meter at most so many decisions.
+/// There are so many entries.
 fn check_turns<R: Abort, D: Decider>(
     rt: &R,
     decider: &Counting<D>,
@@ -143,8 +145,10 @@ pub fn add(bots: &mut Vec<Bot>, bot: Bot) -> Result<(), Fail>
     Ok(())
 }
 
-/// Amoebots in 25 rows. In each row those of the pattern come so many times, each by the places of its head
-/// and its tail in the pattern, which is so wide. The first amoebot has this value of variable 0.
+/// Amoebots in 25 rows.
+/// In each row those of the pattern come so many times, each by the places of its head and its tail
+/// in the pattern, which is so wide.
+/// The first amoebot has this value of variable 0.
 fn crowd(
     alloc: Global,
     times: u8,
@@ -169,26 +173,30 @@ fn crowd(
     Ok(bots)
 }
 
-/// Contracted amoebots in rows of 40, of which the first has a mark. Each has six neighbours at most. So an
-/// entry takes the decision on its own amoebot, and then that of it and of six.
+/// Contracted amoebots in rows of 40, of which the first has a mark.
+/// Each has six neighbours at most.
+/// So an entry takes the decision on its own amoebot, and then that of it and of six.
 #[test]
 fn eight_decisions_are_enough_among_contracted_ones(rt: HostRuntime) -> Result<(), Fail> {
     let bots = crowd(rt.alloc(), 40, 1, &[(0, 0)], 1)?;
     check_text(&rt, rt.alloc(), PASS, (40, 25), bots.as_slice(), 8, 999)
 }
 
-/// Expanded amoebots in rows of 40, with no node between them. Each contracts in turn. There are eight
-/// nodes round an expanded amoebot, so an entry takes the decision on its own amoebot, and then that of it
-/// and of eight.
+/// Expanded amoebots in rows of 40, with no node between them.
+/// Each contracts in turn.
+/// There are eight nodes round an expanded amoebot, so an entry takes the decision on its own
+/// amoebot, and then that of it and of eight.
 #[test]
 fn ten_decisions_are_enough_where_expanded_ones_contract(rt: HostRuntime) -> Result<(), Fail> {
     let bots = crowd(rt.alloc(), 40, 2, &[(1, 0)], 0)?;
     check_text(&rt, rt.alloc(), BACK, (80, 25), bots.as_slice(), 10, 1000)
 }
 
-/// In each row twenty expanded amoebots, each with a contracted one behind its tail. Each expanded amoebot
-/// takes the one behind it along, and that one makes a note when its turn comes. There are ten nodes round
-/// three in a row, so an entry takes the decision on its own amoebot, and then those of at most twelve.
+/// In each row twenty expanded amoebots, each with a contracted one behind its tail.
+/// Each expanded amoebot takes the one behind it along,
+/// and that one makes a note when its turn comes.
+/// There are ten nodes round three in a row, so an entry takes the decision on its own amoebot,
+/// and then those of at most twelve.
 #[test]
 fn thirteen_decisions_are_enough_where_one_pulls_another(rt: HostRuntime) -> Result<(), Fail> {
     let bots = crowd(rt.alloc(), 20, 3, &[(2, 1), (0, 0)], 0)?;

@@ -1,4 +1,5 @@
-//! Which programs are `erosion`: the shipped one, however it is written, and no program that differs from it in one place.
+//! Which programs are `erosion`: the shipped one, however it is written,
+//! and no program that differs from it in one place.
 
 use crate::programs::program_of;
 use election_law::is_erosion;
@@ -6,7 +7,8 @@ use shipped_programs::{EROSION, HEXAGON, LINE, shipped_program};
 use std::alloc::Global;
 use std::test::Fail;
 
-/// What is changed in the text of `erosion`, each time that it stands there, and what comes in its place.
+/// What is changed in the text of `erosion`, each time that it stands there,
+/// and what comes in its place.
 type Change = (&'static str, &'static str);
 
 /// Changes that leave the tree as it is, apart from lines and guard.
@@ -87,7 +89,8 @@ do leader := 1
 end
 ";
 
-/// Whether the text of `erosion` is that of `erosion` still, once it is changed. What is changed stands there.
+/// Whether the text of `erosion` is that of `erosion` still, once it is changed.
+/// What is changed stands there.
 fn is_erosion_after(alloc: Global, change: Change) -> Result<bool, Fail> {
     let (from, to) = change;
     if !EROSION.contains(from) {

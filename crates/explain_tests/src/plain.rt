@@ -1,4 +1,5 @@
-//! The rounds of a run by the text of their definition, and no faster. It shares no line with the meter.
+//! The rounds of a run by the text of their definition, and no faster.
+//! It shares no line with the meter.
 ghost use Rattle.std.specs.Prelude.{◌≡◌, ◌<◌, length};
 
 use amoebot_state::{Decider, Entry, Verdict, World};
@@ -6,7 +7,8 @@ use serial_model::{Serial, Turned};
 use std::alloc::Global;
 use std::test::Fail;
 
-/// A run: at each place the answer for each amoebot whether it is enabled in the world there, and whose each entry is.
+/// A run: at each place the answer for each amoebot whether it is enabled in the world there,
+/// and whose each entry is.
 #[derive(Drop)]
 pub struct History {
     amoebots: u16,
@@ -86,7 +88,8 @@ impl History {
         None
     }
 
-    /// The rounds that end within the journal, and the amoebots that are not settled at its end in the last round that was started.
+    /// The rounds that end within the journal, and the amoebots that are not settled at its end
+    /// in the last round that was started.
     pub fn rounds(&self) -> (u64, u64) {
         let mut start = 0;
         let mut rounds = 0;

@@ -1,4 +1,5 @@
-//! Rounds of small runs: the numbers after each entry from a table that was written by the definition, and those of the plain count.
+//! Rounds of small runs: the numbers after each entry from a table that was written
+//! by the definition, and those of the plain count.
 ghost use Rattle.std.specs.Prelude.{◌≡◌, ◌≤◌, ◌<◌, ◌+◌, ◌^◌, IfOk, OnOk};
 ghost use Rattle.std.specs.List.{All};
 ghost use Rattle.amoebot_state.specs.Refusals.{IsBotInRange};
@@ -229,8 +230,8 @@ fn check_bots<R: Abort, D: Decider>(
     check_acts(rt, alloc, decider, &mut meter, &mut reference, acts, counts)
 }
 
-/// The ring erodes in the first round, and the one in the middle acts in the second. It is enabled from the first entry on, but it
-/// rested at the start.
+/// The ring erodes in the first round, and the one in the middle acts in the second.
+/// It is enabled from the first entry on, but it rested at the start.
 #[test]
 fn a_ring_erodes_and_then_its_middle(rt: HostRuntime) -> Result<(), Fail> {
     check_counts(
@@ -255,14 +256,16 @@ fn two_that_are_enabled_both_have_to_act(rt: HostRuntime) -> Result<(), Fail> {
     check_counts(&rt, rt.alloc(), &Marker, &TWO, &[1, 0], &BOTH_ACT)
 }
 
-/// Both want the node between them. The one that is late is not enabled any more, and so is settled.
+/// Both want the node between them.
+/// The one that is late is not enabled any more, and so is settled.
 #[test]
 fn an_amoebot_is_disabled_by_another(rt: HostRuntime) -> Result<(), Fail> {
     let bots = [standing(2, 3, 0), turned(4, 3)];
     check_bots(&rt, rt.alloc(), &OUT, &bots, &[0], &[(0, 2), (1, 0)])
 }
 
-/// One that rested at the start of a round and is enabled in it by another waits in the next round alone.
+/// One that rested at the start of a round and is enabled in it by another
+/// waits in the next round alone.
 #[test]
 fn an_amoebot_is_enabled_by_another(rt: HostRuntime) -> Result<(), Fail> {
     let counts = [(0, 1), (1, 1), (2, 0)];
@@ -297,7 +300,8 @@ fn feed_again<R: Abort, D: Decider>(rt: &R, meter: &mut Meter<'_, D>, entry: &En
     }
 }
 
-/// Amoebot 1 acts, and its entry comes once more. It is refused, and takes one decision, and nothing else changes.
+/// Amoebot 1 acts, and its entry comes once more.
+/// It is refused, and takes one decision, and nothing else changes.
 fn check_again<R: Abort, D: Decider>(
     rt: &R,
     decider: &Counting<D>,
@@ -315,7 +319,8 @@ fn check_again<R: Abort, D: Decider>(
     Ok(())
 }
 
-/// An entry that is no step is refused with the number of entries before it, and changes nothing. It takes one decision.
+/// An entry that is no step is refused with the number of entries before it, and changes nothing.
+/// It takes one decision.
 #[test]
 fn an_entry_that_is_no_step_changes_nothing(rt: HostRuntime) -> Result<(), Fail> {
     let bots = [standing(2, 3, 1), standing(3, 3, 0), standing(4, 3, 0)];

@@ -1,4 +1,5 @@
-//! Runs of small worlds that are made from numbers: after each entry the meter has the numbers of the plain count.
+//! Runs of small worlds that are made from numbers: after each entry the meter has
+//! the numbers of the plain count.
 ghost use Rattle.std.specs.Prelude.{◌≡◌, ◌≤◌, ◌<◌, IfOk};
 ghost use Rattle.std.specs.List.{All};
 ghost use Rattle.tri_lattice.specs.Lattice.{IsNear};
@@ -120,7 +121,9 @@ fn draw_world(alloc: Global, generator: &mut Pcg32, maxes: [u8; 8]) -> Result<Wo
     Ok(World::walled(alloc, area, walls.as_slice(), maxes, bots.as_slice())?)
 }
 
-/// Up to 40 turns of amoebots that are drawn. After each entry the meter agrees. How many entries there were.
+/// Up to 40 turns of amoebots that are drawn.
+/// After each entry the meter agrees.
+/// How many entries there were.
 fn take_turns<R: Abort, D: Decider>(
     rt: &R,
     alloc: Global,

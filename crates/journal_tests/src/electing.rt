@@ -1,5 +1,5 @@
-//! Elections: documents with what `elect` writes of them, in each version; programs and shapes that it refuses; and journals
-//! of runs on threads.
+//! Elections: documents with what `elect` writes of them, in each version;
+//! programs and shapes that it refuses; and journals of runs on threads.
 
 use crate::renewals::check_all_refused;
 use crate::rounding::{check_told, erosion_of_144};
@@ -40,26 +40,33 @@ static ELECTED: [Told; 6] = [
     ),
     (
         "{ERODE}{TWO_CANDIDATES}\
-        journal\nentry 0 0 0 0 1 none body 0 2 3 2 3 0 + 0 0\nentry 1 0 1 1 0 none body 1 3 3 3 3 0 + 1 1\nend\n\
+        journal\nentry 0 0 0 0 1 none body 0 2 3 2 3 0 + 0 0\n\
+        entry 1 0 1 1 0 none body 1 3 3 3 3 0 + 1 1\nend\n\
         final\narea 0 0 8 8\nbot 2 3 2 3 0 + 0 0\nbot 3 3 3 3 0 + 1 1\nend\n",
         "candidates 1\nleader 1\n",
     ),
-    // Four in a row, with other rotations and chiralities: the ends give up, then the second, and the third leads.
+    // Four in a row, with other rotations and chiralities: the ends give up, then the second,
+    // and the third leads.
     (
         "{ERODE}\
-        shape\narea 0 0 8 8\nbot 1 3 1 3 5 - 1 0\nbot 2 3 2 3 2 + 1 0\nbot 3 3 3 3 3 - 1 0\nbot 4 3 4 3 4 + 1 0\nend\n\
+        shape\narea 0 0 8 8\nbot 1 3 1 3 5 - 1 0\nbot 2 3 2 3 2 + 1 0\n\
+        bot 3 3 3 3 3 - 1 0\nbot 4 3 4 3 4 + 1 0\nend\n\
         journal\nentry 0 0 1 0 1 none body 0 1 3 1 3 5 - 0 0\nentry 1 0 3 3 1 none body 3 4 3 4 3 4 + 0 0\n\
         entry 2 0 4 1 1 none body 1 2 3 2 3 2 + 0 0\nentry 3 0 6 2 0 none body 2 3 3 3 3 3 - 1 1\nend\n\
-        final\narea 0 0 8 8\nbot 1 3 1 3 5 - 0 0\nbot 2 3 2 3 2 + 0 0\nbot 3 3 3 3 3 - 1 1\nbot 4 3 4 3 4 + 0 0\nend\n",
+        final\narea 0 0 8 8\nbot 1 3 1 3 5 - 0 0\nbot 2 3 2 3 2 + 0 0\n\
+        bot 3 3 3 3 3 - 1 1\nbot 4 3 4 3 4 + 0 0\nend\n",
         "candidates 1\nleader 2\n",
     ),
     // A ring with a tail of two: the tail gives up, and the ring stays.
     (
         "{ERODE}\
-        shape\narea 0 0 8 8\nbot 4 3 4 3 0 + 1 0\nbot 3 4 3 4 0 + 1 0\nbot 2 4 2 4 0 + 1 0\nbot 2 3 2 3 0 + 1 0\n\
+        shape\narea 0 0 8 8\nbot 4 3 4 3 0 + 1 0\nbot 3 4 3 4 0 + 1 0\n\
+        bot 2 4 2 4 0 + 1 0\nbot 2 3 2 3 0 + 1 0\n\
         bot 3 2 3 2 0 + 1 0\nbot 4 2 4 2 0 + 1 0\nbot 5 3 5 3 0 + 1 0\nbot 6 3 6 3 0 + 1 0\nend\n\
-        journal\nentry 0 0 0 7 1 none body 7 6 3 6 3 0 + 0 0\nentry 1 0 1 6 1 none body 6 5 3 5 3 0 + 0 0\nend\n\
-        final\narea 0 0 8 8\nbot 4 3 4 3 0 + 1 0\nbot 3 4 3 4 0 + 1 0\nbot 2 4 2 4 0 + 1 0\nbot 2 3 2 3 0 + 1 0\n\
+        journal\nentry 0 0 0 7 1 none body 7 6 3 6 3 0 + 0 0\n\
+        entry 1 0 1 6 1 none body 6 5 3 5 3 0 + 0 0\nend\n\
+        final\narea 0 0 8 8\nbot 4 3 4 3 0 + 1 0\nbot 3 4 3 4 0 + 1 0\n\
+        bot 2 4 2 4 0 + 1 0\nbot 2 3 2 3 0 + 1 0\n\
         bot 3 2 3 2 0 + 1 0\nbot 4 2 4 2 0 + 1 0\nbot 5 3 5 3 0 + 0 0\nbot 6 3 6 3 0 + 0 0\nend\n",
         "candidates 6\nleader none\n",
     ),
@@ -148,9 +155,11 @@ static NOT_ELECTED: [Fault; 11] = [
     (
         "elect",
         "{ERODE}\
-        shape\narea 0 0 8 8\nbot 4 3 4 3 0 + 1 0\nbot 3 4 3 4 0 + 1 0\nbot 2 4 2 4 0 + 0 0\nbot 2 3 2 3 0 + 1 0\n\
+        shape\narea 0 0 8 8\nbot 4 3 4 3 0 + 1 0\nbot 3 4 3 4 0 + 1 0\n\
+        bot 2 4 2 4 0 + 0 0\nbot 2 3 2 3 0 + 1 0\n\
         bot 3 2 3 2 0 + 1 0\nbot 4 2 4 2 0 + 1 0\nend\n{NO_ENTRY}\
-        final\narea 0 0 8 8\nbot 4 3 4 3 0 + 1 0\nbot 3 4 3 4 0 + 1 0\nbot 2 4 2 4 0 + 0 0\nbot 2 3 2 3 0 + 1 0\n\
+        final\narea 0 0 8 8\nbot 4 3 4 3 0 + 1 0\nbot 3 4 3 4 0 + 1 0\n\
+        bot 2 4 2 4 0 + 0 0\nbot 2 3 2 3 0 + 1 0\n\
         bot 3 2 3 2 0 + 1 0\nbot 4 2 4 2 0 + 1 0\nend\n",
         0,
         BadStart,

@@ -1,4 +1,5 @@
-//! Tests of the commands on journals, through the top call: old values, what is renewed, gone back along and counted, and elections.
+//! Tests of the commands on journals, through the top call: old values, what is renewed,
+//! gone back along and counted, and elections.
 #![tactic(auto)]
 
 #[cfg(test)]

@@ -1,4 +1,5 @@
-//! Documents of version 3: journals with the old values of cells. Runs under each version, and journals that were tampered with.
+//! Documents of version 3: journals with the old values of cells.
+//! Runs under each version, and journals that were tampered with.
 
 use amoebot_run::Status::{Differs, Done};
 use amoebot_state::{Entry, PlainEntry};
@@ -12,8 +13,9 @@ use std::test::Fail;
 use std::thread::Threads;
 use text_tokens::RefusalKind::{BadEntry, BadPlace, BadRange, Unexpected};
 
-/// A document that has one text in each version, apart from its journal: the word of its command, itself in version 1,
-/// how many entries there are, the journal of versions 1 and 2, that of version 3, and the rest of the text.
+/// A document that has one text in each version, apart from its journal: the word of its command,
+/// itself in version 1, how many entries there are, the journal of versions 1 and 2,
+/// that of version 3, and the rest of the text.
 type Run = (
     &'static str,
     &'static str,
@@ -90,7 +92,8 @@ static RUNS: [Run; 12] = [
     // A neighbour's value is written twice: the old value is the one before both.
     (
         "run",
-        "amoebot 1\nprogram\nvar m 3\naction a when true do head 2 . m := 1 ; tail 1 . m := head 2 . m + 1\nend\n\
+        "amoebot 1\nprogram\nvar m 3\n\
+        action a when true do head 2 . m := 1 ; tail 1 . m := head 2 . m + 1\nend\n\
         shape\narea 0 0 8 8\nbot 3 3 2 3 0 + 0\nbot 2 4 2 4 0 + 0\nend\n{ONE_TURN}",
         1,
         "journal\nentry 0 0 0 0 0 none body 1 2 4 2 4 0 + 2\nend\n",
@@ -111,7 +114,8 @@ static RUNS: [Run; 12] = [
     // And so is a neighbour's.
     (
         "run",
-        "amoebot 1\nprogram\nvar m 1\naction a when true do head 0 . m := 1 ; head 0 . m := 0\nend\n{TWO}{TWO_TURNS}",
+        "amoebot 1\nprogram\nvar m 1\n\
+        action a when true do head 0 . m := 1 ; head 0 . m := 0\nend\n{TWO}{TWO_TURNS}",
         2,
         "{TWICE_NOTHING}",
         "{TWICE_NOTHING}",
@@ -132,9 +136,11 @@ static RUNS: [Run; 12] = [
         entry 1 1 1 1 0 none body 1 3 3 3 3 0 + 0 to 3 3 3 3 0 + 1\n\
         end\n",
         "final\narea 0 0 8 8\nbot 2 3 2 3 0 + 1\nbot 3 3 3 3 0 + 1\nend\n\
-        turns\nturn 0 0 done 0\nturn 0 1 idle 2\nturn 1 0 busy spot 3 3 by 0 0 0 place 0\nturn 1 1 done 1\nend\n",
+        turns\nturn 0 0 done 0\nturn 0 1 idle 2\n\
+        turn 1 0 busy spot 3 3 by 0 0 0 place 0\nturn 1 1 done 1\nend\n",
     ),
-    // The amoebot that makes a note was pulled before: the second entry's old value is the first one's new value.
+    // The amoebot that makes a note was pulled before: the second entry's old
+    // value is the first one's new value.
     (
         "interleave",
         "{DRAG}{TRAILED_0}{TWO_EACH}schedule 1 times 19 0 times 26 1 times 26 end\n",
@@ -158,7 +164,9 @@ static RUNS: [Run; 12] = [
     ),
 ];
 
-/// Entries that name what is not there, stand at another place, or are written as in another version. The entry stands on line 14.
+/// Entries that name what is not there, stand at another place,
+/// or are written as in another version.
+/// The entry stands on line 14.
 pub static REFUSED: [Fault; 10] = [
     (
         "replay",
@@ -171,7 +179,8 @@ pub static REFUSED: [Fault; 10] = [
     (
         "replay",
         "{OUT_3}{ONE}{TWO_TURNS}\
-        journal\nentry 0 16 0 0 0 expand head 0 spot 3 3 empty to 0 body 0 2 3 2 3 0 + to 3 3 2 3 0 +\n{REST}",
+        journal\nentry 0 16 0 0 0 expand head 0 spot 3 3 empty to 0 \
+        body 0 2 3 2 3 0 + to 3 3 2 3 0 +\n{REST}",
         14,
         BadEntry,
         "refused 14 BadEntry\n",
@@ -223,7 +232,8 @@ pub static REFUSED: [Fault; 10] = [
     (
         "replay",
         "amoebot 2\nprogram\naction out when contracted move expand head 0\nend\n{ONE}{TWO_TURNS}\
-        journal\nentry 0 0 0 0 0 expand head 0 spot 3 3 empty\nto 0 body 0 2 3 2 3 0 + to 3 3 2 3 0 +\n{REST}",
+        journal\nentry 0 0 0 0 0 expand head 0 spot 3 3 empty\n\
+        to 0 body 0 2 3 2 3 0 + to 3 3 2 3 0 +\n{REST}",
         15,
         Unexpected,
         "refused 15 Unexpected\n",
@@ -231,7 +241,8 @@ pub static REFUSED: [Fault; 10] = [
     (
         "replay",
         "{OUT}{ONE}{TWO_TURNS}\
-        journal\nentry 0 0 0 0 0 expand head 0 spot 3 3 empty\nto 0 body 0 2 3 2 3 0 + to 3 3 2 3 0 +\n{REST}",
+        journal\nentry 0 0 0 0 0 expand head 0 spot 3 3 empty\n\
+        to 0 body 0 2 3 2 3 0 + to 3 3 2 3 0 +\n{REST}",
         15,
         Unexpected,
         "refused 15 Unexpected\n",
@@ -239,7 +250,8 @@ pub static REFUSED: [Fault; 10] = [
     // There is no version 4.
     (
         "replay",
-        "amoebot 4\nprogram\naction out when contracted move expand head 0\nend\n{ONE}{TWO_TURNS}{EXPANDED_3}{EXPANDED_FINAL}",
+        "amoebot 4\nprogram\naction out when contracted move expand head 0\n\
+        end\n{ONE}{TWO_TURNS}{EXPANDED_3}{EXPANDED_FINAL}",
         1,
         BadRange,
         "refused 1 BadRange\n",
@@ -330,7 +342,8 @@ pub static COMPARED: [Row; 13] = [
     (
         "replay",
         "{OUT_3}{ONE}{TWO_TURNS}\
-        journal\nentry 0 0 0 0 0 expand head 0 spot 3 3 empty to 0 body 0 2 3 2 3 0 + to 3 3 2 3 0 + spot 2 3 0 to 0\n{REST}",
+        journal\nentry 0 0 0 0 0 expand head 0 spot 3 3 empty to 0 \
+        body 0 2 3 2 3 0 + to 3 3 2 3 0 + spot 2 3 0 to 0\n{REST}",
         Differs(0),
         None,
         "differs 0\n",
@@ -372,7 +385,8 @@ static COMMANDS: [Row; 4] = [
         Done,
         Some(1),
         "journal\n\
-        entry 0 0 0 0 0 push head 0 spot 3 3 1 to 0 body 0 2 3 2 3 0 + to 3 3 2 3 0 + body 1 3 3 4 3 0 + to 4 3 4 3 0 +\n\
+        entry 0 0 0 0 0 push head 0 spot 3 3 1 to 0 \
+        body 0 2 3 2 3 0 + to 3 3 2 3 0 + body 1 3 3 4 3 0 + to 4 3 4 3 0 +\n\
         end\n\
         final\narea 0 0 8 8\nwall 3 2\nwall 2 4\nbot 3 3 2 3 0 +\nbot 4 3 4 3 0 +\nend\n{DONE}",
     ),
@@ -522,7 +536,8 @@ fn all_plain(plain: &[PlainEntry], entries: &[Entry]) -> bool {
             .all(|(plain, entry)| is_plain(plain, entry))
 }
 
-/// Whether two documents have these entries without their old values, and the third has them with them.
+/// Whether two documents have these entries without their old values,
+/// and the third has them with them.
 fn have_one_journal(first: &Parts, second: &Parts, third: &Parts, many: usize) -> bool {
     if first.entries.is_some() || second.entries.is_some() || third.plain.is_some() {
         return false;

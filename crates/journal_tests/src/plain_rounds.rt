@@ -1,12 +1,14 @@
 //! The rounds of a run by their definition, and no faster.
-//! Whether each amoebot is enabled at each place is a table, and each question of the definition is a loop over places.
+//! Whether each amoebot is enabled at each place is a table,
+//! and each question of the definition is a loop over places.
 
 use amoebot_state::{Decider, Entry, Verdict, World};
 use serial_model::Serial;
 use std::alloc::Global;
 use std::test::Fail;
 
-/// A run: for each amoebot whether it is enabled, one answer for each place; and the amoebot of each entry.
+/// A run: for each amoebot whether it is enabled, one answer for each place;
+/// and the amoebot of each entry.
 #[derive(Drop)]
 pub struct Table {
     enabled: Vec<Vec<bool>>,

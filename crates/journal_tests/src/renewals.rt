@@ -1,4 +1,5 @@
-//! Documents that are renewed: in version 3, with the program in its canonical form and the old values in the journal.
+//! Documents that are renewed: in version 3, with the program in its canonical form
+//! and the old values in the journal.
 
 use crate::{old_values, tampered};
 use amoebot_run::Status::{self, Done};
@@ -42,13 +43,15 @@ pub static RENEWALS: [Renewal; 9] = [
         journal\nentry 0 3 9 0 0 expand head 0 spot 3 3 0 body 0 3 3 2 3 0 +\nend\n{EXPANDED_FINAL}",
         "agrees 1\n",
         "{OUT_RENEWED}{ONE}\
-        journal\nentry 0 3 9 0 0 expand head 0 spot 3 3 empty to 0 body 0 2 3 2 3 0 + to 3 3 2 3 0 +\nend\n{EXPANDED_FINAL}",
+        journal\nentry 0 3 9 0 0 expand head 0 spot 3 3 empty to 0 \
+        body 0 2 3 2 3 0 + to 3 3 2 3 0 +\nend\n{EXPANDED_FINAL}",
     ),
     // The old value of the second entry is the new one of the first.
     (
         "{DRAG}{TRAILED_0}{DRAGGED_JOURNAL}{DRAGGED_FINAL}",
         "agrees 2\n",
-        "amoebot 3\nprogram\nguard off\nvar m 1\naction drag\nwhen expanded and linked tail 3 and not peer_expanded tail 3\n\
+        "amoebot 3\nprogram\nguard off\nvar m 1\naction drag\n\
+        when expanded and linked tail 3 and not peer_expanded tail 3\n\
         move pull tail 3\naction note\nwhen expanded\ndo m := 1\nmove none\nend\n\
         {TRAILED_0}{DRAGGED_JOURNAL_3}{DRAGGED_FINAL}",
     ),
@@ -81,14 +84,18 @@ pub static RENEWALS: [Renewal; 9] = [
         journal\nentry 0 0 0 0 0 none\nend\n\
         final\narea 0 0 8 8\nbot 2 3 2 3 0 + 0\nend\n",
     ),
-    // Comments, sections on one line, parentheses, zeros before numbers, lists, a schedule and turns are left out.
+    // Comments, sections on one line, parentheses, zeros before numbers, lists,
+    // a schedule and turns are left out.
     (
         "# An amoebot writes.\namoebot 01 program # no guard\n\
-        var m 03 action a when ( ( m = 00 ) ) do m := 1 ; m := m + 1 end shape area 0 -0 008 8 bot 2 3 2 3 0 + 0 end lists \
-        turns 1 list 0 end schedule 0 times 3 end journal\nentry 0 0 0 0 0 none body 0 2 3 02 3 0 + 2 # done\n\
+        var m 03 action a when ( ( m = 00 ) ) do m := 1 ; m := m + 1 \
+        end shape area 0 -0 008 8 bot 2 3 2 3 0 + 0 end lists \
+        turns 1 list 0 end schedule 0 times 3 end journal\n\
+        entry 0 0 0 0 0 none body 0 2 3 02 3 0 + 2 # done\n\
         end final area 0 0 8 8\nbot 2 3 2 3 0 + 2 end turns turn 0 0 done 0 end",
         "agrees 1\n",
-        "amoebot 3\nprogram\nguard off\nvar m 3\naction a\nwhen m = 0\ndo m := 1 ; m := m + 1\nmove none\nend\n\
+        "amoebot 3\nprogram\nguard off\nvar m 3\naction a\n\
+        when m = 0\ndo m := 1 ; m := m + 1\nmove none\nend\n\
         shape\narea 0 0 8 8\nbot 2 3 2 3 0 + 0\nend\n\
         journal\nentry 0 0 0 0 0 none body 0 2 3 2 3 0 + 0 to 2 3 2 3 0 + 2\nend\n\
         final\narea 0 0 8 8\nbot 2 3 2 3 0 + 2\nend\n",
@@ -135,7 +142,8 @@ pub static REFUSED: [Fault; 5] = [
     ),
 ];
 
-/// The document is renewed, and what comes of that is renewed to itself. `replay` says the same of both.
+/// The document is renewed, and what comes of that is renewed to itself.
+/// `replay` says the same of both.
 fn check_renewal<R: Threads + Wait + Sync>(
     rt: &R,
     alloc: Global,

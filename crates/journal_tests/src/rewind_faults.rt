@@ -1,5 +1,6 @@
-//! Journals that cannot be gone back along: last shapes in another frame, entries that were tampered with, places that there are
-//! not, documents that are none, and words that are no command.
+//! Journals that cannot be gone back along: last shapes in another frame,
+//! entries that were tampered with, places that there are not, documents that are none,
+//! and words that are no command.
 
 use amoebot_run::Status::{self, Differs};
 use text_tokens::RefusalKind::{
@@ -12,7 +13,8 @@ pub type Rewinding = (&'static str, &'static str, Status, &'static str);
 /// The number of a place, a document, the line and the kind of the refusal, and its text.
 pub type Refused = (&'static str, &'static str, u32, RefusalKind, &'static str);
 
-/// A last shape with another area, other walls or another number of amoebots differs at the number of entries.
+/// A last shape with another area, other walls or another number of amoebots
+/// differs at the number of entries.
 pub static OTHER_FRAMES: [Rewinding; 10] = [
     (
         "0",
@@ -75,7 +77,8 @@ pub static OTHER_FRAMES: [Rewinding; 10] = [
         "0",
         "{OUT_RENEWED}\
         shape\narea 0 0 8 8\nbot 5 5 5 5 0 +\nbot 2 3 2 3 0 +\nend\n\
-        journal\nentry 0 0 0 1 0 expand head 0 spot 3 3 empty to 1 body 1 2 3 2 3 0 + to 3 3 2 3 0 +\nend\n{EXPANDED_FINAL}",
+        journal\nentry 0 0 0 1 0 expand head 0 spot 3 3 empty to 1 \
+        body 1 2 3 2 3 0 + to 3 3 2 3 0 +\nend\n{EXPANDED_FINAL}",
         Differs(1),
         "differs 1\n",
     ),
@@ -115,7 +118,8 @@ pub static TAMPERED: [&str; 14] = [
     "entry 0 0 0 0 0 expand head 0 spot 3 3 empty to 0 body 0 9 9 9 9 0 + to 3 3 2 3 0 +\n",
 ];
 
-/// Places that there are not, and documents that are none. The entry of the worked example stands on line 13.
+/// Places that there are not, and documents that are none.
+/// The entry of the worked example stands on line 13.
 pub static REFUSED: [Refused; 18] = [
     (
         "2",

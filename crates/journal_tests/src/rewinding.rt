@@ -1,4 +1,5 @@
-//! Journals that are gone back along: the shape at a place, seen from the last shape, or where there is no step back.
+//! Journals that are gone back along: the shape at a place, seen from the last shape,
+//! or where there is no step back.
 
 use crate::renewals::RENEWALS;
 use crate::rewind_faults::{NO_REWINDS, OTHER_FRAMES, REFUSED, Refused, Rewinding, TAMPERED};
@@ -66,21 +67,24 @@ static PIECES: [Piece; 25] = [
         "NOTED_BEFORE",
         "journal\n\
         entry 0 0 0 0 0 pull tail 3 spot 2 3 0 to 1 body 0 3 3 2 3 0 + 0 to 3 3 3 3 0 + 0 \
-        body 1 1 3 1 3 0 + 0 to 2 3 1 3 0 + 0\nentry 1 1 1 1 1 none body 1 2 3 1 3 0 + 1 to 2 3 1 3 0 + 1\nend\n",
+        body 1 1 3 1 3 0 + 0 to 2 3 1 3 0 + 0\n\
+        entry 1 1 1 1 1 none body 1 2 3 1 3 0 + 1 to 2 3 1 3 0 + 1\nend\n",
     ),
     // The entry names the other action for the pull.
     (
         "PULLED_BY_NOTE",
         "journal\n\
         entry 0 0 0 0 1 pull tail 3 spot 2 3 0 to 1 body 0 3 3 2 3 0 + 0 to 3 3 3 3 0 + 0 \
-        body 1 1 3 1 3 0 + 0 to 2 3 1 3 0 + 0\nentry 1 1 1 1 1 none body 1 2 3 1 3 0 + 0 to 2 3 1 3 0 + 1\nend\n",
+        body 1 1 3 1 3 0 + 0 to 2 3 1 3 0 + 0\n\
+        entry 1 1 1 1 1 none body 1 2 3 1 3 0 + 0 to 2 3 1 3 0 + 1\nend\n",
     ),
     // Both.
     (
         "BOTH_WRONG",
         "journal\n\
         entry 0 0 0 0 1 pull tail 3 spot 2 3 0 to 1 body 0 3 3 2 3 0 + 0 to 3 3 3 3 0 + 0 \
-        body 1 1 3 1 3 0 + 0 to 2 3 1 3 0 + 0\nentry 1 1 1 1 1 none body 1 2 3 1 3 0 + 1 to 2 3 1 3 0 + 1\nend\n",
+        body 1 1 3 1 3 0 + 0 to 2 3 1 3 0 + 0\n\
+        entry 1 1 1 1 1 none body 1 2 3 1 3 0 + 1 to 2 3 1 3 0 + 1\nend\n",
     ),
     // A value that stays is listed.
     (
@@ -98,7 +102,8 @@ static PIECES: [Piece; 25] = [
         "CONTRACTED_INTO",
         "journal\nentry 0 0 0 0 1 contract tail spot 3 3 0 to 1 body 0 2 3 3 3 0 + to 2 3 2 3 0 +\nend\n",
     ),
-    // Seven amoebots in a hexagon: those round the middle erode one after the other, and then the middle one leads.
+    // Seven amoebots in a hexagon: those round the middle erode one after the other,
+    // and then the middle one leads.
     (
         "ERODED",
         "journal\nentry 0 0 0 1 1 none body 1 4 3 4 3 0 + 1 0 to 4 3 4 3 0 + 0 0\n\
@@ -137,7 +142,8 @@ static PIECES: [Piece; 25] = [
     ),
 ];
 
-/// The document of the hexagon, whose shape does not matter. Three amoebots stand elsewhere at the start.
+/// The document of the hexagon, whose shape does not matter.
+/// Three amoebots stand elsewhere at the start.
 const HEXAGON: &str = "{ERODE_3}{AREA}{MIDDLE}{THREE_OFF}{ONE_TO_THREE_ELSEWHERE}end\n{ERODED}\
     final\narea 0 0 8 8\nbot 3 3 3 3 0 + 1 1\n{THREE_OFF}{SIX_OFF}end\n";
 
@@ -149,7 +155,8 @@ static REWOUND: [Rewinding; 13] = [
         Done,
         "{ONE}",
     ),
-    // The shape of the document does not matter, apart from its area, its walls and the number of its amoebots.
+    // The shape of the document does not matter, apart from its area,
+    // its walls and the number of its amoebots.
     (
         "0",
         "{OUT_RENEWED}{ELSEWHERE}{EXPANDED_3}{EXPANDED_FINAL}",
@@ -173,7 +180,8 @@ static REWOUND: [Rewinding; 13] = [
     (
         "0",
         "{OUT_RENEWED}{ONE}\
-        journal\nentry 0 3 9 0 0 expand head 0 spot 3 3 empty to 0 body 0 2 3 2 3 0 + to 3 3 2 3 0 +\nend\n{EXPANDED_FINAL}",
+        journal\nentry 0 3 9 0 0 expand head 0 spot 3 3 empty to 0 \
+        body 0 2 3 2 3 0 + to 3 3 2 3 0 +\nend\n{EXPANDED_FINAL}",
         Done,
         "{ONE}",
     ),
@@ -235,7 +243,8 @@ static REWOUND: [Rewinding; 13] = [
     ),
 ];
 
-/// Entries that change nothing, walls, values at their maximum, entries that stand twice, and a last shape that is none.
+/// Entries that change nothing, walls, values at their maximum, entries that stand twice,
+/// and a last shape that is none.
 static BACK_BY_STEPS: [Rewinding; 16] = [
     // Entries that change nothing. A value that stays is none of a patch.
     (
@@ -294,7 +303,8 @@ static BACK_BY_STEPS: [Rewinding; 16] = [
         Done,
         "shape\narea 0 0 8 8\nwall 6 2\nwall 5 5\nbot 2 3 3 3 0 +\nend\n",
     ),
-    // A value was its maximum. Above the maximum there is none, though the action would have changed it.
+    // A value was its maximum.
+    // Above the maximum there is none, though the action would have changed it.
     (
         "0",
         "amoebot 3\nprogram\nvar m 2\naction a when true do m := 0\nend\n\
@@ -317,12 +327,14 @@ static BACK_BY_STEPS: [Rewinding; 16] = [
         "0",
         "amoebot 3\nprogram\nvar m 1\naction out when contracted move expand head 0\nend\n\
         shape\narea 0 0 8 8\nbot 2 3 2 3 0 + 0\nend\n\
-        journal\nentry 0 0 0 0 0 expand head 0 spot 3 3 empty to 0 body 0 2 3 2 3 0 + 2 to 3 3 2 3 0 + 0\nend\n\
+        journal\nentry 0 0 0 0 0 expand head 0 spot 3 3 empty to 0 \
+        body 0 2 3 2 3 0 + 2 to 3 3 2 3 0 + 0\nend\n\
         final\narea 0 0 8 8\nbot 3 3 2 3 0 + 0\nend\n",
         Differs(0),
         "differs 0\n",
     ),
-    // The same entry twice: seen from the last shape the second one is a step, and the first one is none.
+    // The same entry twice: seen from the last shape the second one is a step,
+    // and the first one is none.
     (
         "0",
         "{OUT_RENEWED}{ONE}{EXPANDED_TWICE}{EXPANDED_FINAL}",
@@ -356,7 +368,8 @@ static BACK_BY_STEPS: [Rewinding; 16] = [
     ),
 ];
 
-/// The answer is the greatest place from which there is no step, if it is not below the place that is asked for.
+/// The answer is the greatest place from which there is no step,
+/// if it is not below the place that is asked for.
 static FAULTY: [Rewinding; 8] = [
     (
         "0",

@@ -1,4 +1,5 @@
-//! Rounds of runs: documents with what `rounds` writes of them, in each version; and journals of runs on threads.
+//! Rounds of runs: documents with what `rounds` writes of them, in each version;
+//! and journals of runs on threads.
 
 use crate::plain_rounds::Table;
 use crate::renewals::{check_all_different, check_all_refused};
@@ -25,12 +26,14 @@ static PIECES: [Piece; 7] = [
     // A contracted amoebot that has no mark takes one from a neighbour.
     (
         "PASS",
-        "amoebot 1\nprogram\nvar m 1\naction pass when m = 0 and any p in ports ( p . m = 1 ) do m := 1\nend\n",
+        "amoebot 1\nprogram\nvar m 1\n\
+        action pass when m = 0 and any p in ports ( p . m = 1 ) do m := 1\nend\n",
     ),
     // Amoebots go to the right.
     (
         "LINE",
-        "amoebot 1\nprogram\nguard off\naction out\nwhen contracted and free head 0\nmove expand head 0\naction follow_up\n\
+        "amoebot 1\nprogram\nguard off\naction out\n\
+        when contracted and free head 0\nmove expand head 0\naction follow_up\n\
         when expanded\nmove contract tail\nend\n",
     ),
     // Two amoebots of which each one's way is free.
@@ -38,10 +41,12 @@ static PIECES: [Piece; 7] = [
         "TWO_ROWS",
         "shape\narea 0 0 8 8\nbot 0 1 0 1 0 +\nbot 0 5 0 5 0 +\nend\n",
     ),
-    // Two neighbours of which the first has a mark, and apart from them a third that has one beside a fourth.
+    // Two neighbours of which the first has a mark, and apart from them
+    // a third that has one beside a fourth.
     (
         "TWO_PLACES",
-        "shape\narea 0 0 8 8\nbot 0 1 0 1 0 + 1\nbot 1 1 1 1 0 + 0\nbot 2 1 2 1 0 + 0\nbot 0 5 0 5 0 + 1\nbot 1 5 1 5 0 + 0\n\
+        "shape\narea 0 0 8 8\nbot 0 1 0 1 0 + 1\nbot 1 1 1 1 0 + 0\n\
+        bot 2 1 2 1 0 + 0\nbot 0 5 0 5 0 + 1\nbot 1 5 1 5 0 + 0\n\
         end\n",
     ),
     (
@@ -78,7 +83,8 @@ static NOBODY_ACTS: [Told; 4] = [
 ];
 
 static ROUNDED: [Told; 9] = [
-    // The ring erodes in the first round, and the one in its middle acts in the second. It rested at the start of the first.
+    // The ring erodes in the first round, and the one in its middle acts in the second.
+    // It rested at the start of the first.
     (
         "{ERODE}{SEVEN}lists\nturns 8\nlist 0 1 2 3 4 5 6\nend\n{SEVEN_JOURNAL}{SEVEN_FINAL}",
         "rounds 2\nwaiting 0\n",
@@ -121,7 +127,8 @@ static ROUNDED: [Told; 9] = [
         final\narea 0 0 8 8\nbot 3 3 3 3 0 + 0\nbot 2 3 1 3 0 + 0\nend\n",
         "rounds 1\nwaiting 1\n",
     ),
-    // The second amoebot wanted the node that the first one entered: it rests since another one acted.
+    // The second amoebot wanted the node that the first one entered:
+    // it rests since another one acted.
     (
         "{OUT}{TWO_FOR_ONE}{EXPANDED}\
         final\narea 0 0 8 8\nbot 3 3 2 3 0 +\nbot 3 2 3 2 1 +\nend\n",
@@ -154,7 +161,8 @@ static ENABLED_BY_OTHERS: [Told; 4] = [
     (
         "{PASS}{TWO_PLACES}\
         journal\nentry 0 0 0 1 0 none body 1 1 1 1 1 0 + 1\nend\n\
-        final\narea 0 0 8 8\nbot 0 1 0 1 0 + 1\nbot 1 1 1 1 0 + 1\nbot 2 1 2 1 0 + 0\nbot 0 5 0 5 0 + 1\nbot 1 5 1 5 0 + 0\n\
+        final\narea 0 0 8 8\nbot 0 1 0 1 0 + 1\nbot 1 1 1 1 0 + 1\n\
+        bot 2 1 2 1 0 + 0\nbot 0 5 0 5 0 + 1\nbot 1 5 1 5 0 + 0\n\
         end\n",
         "rounds 0\nwaiting 1\n",
     ),
@@ -162,7 +170,8 @@ static ENABLED_BY_OTHERS: [Told; 4] = [
     (
         "{PASS}{TWO_PLACES}\
         journal\nentry 0 0 0 1 0 none body 1 1 1 1 1 0 + 1\nentry 1 1 0 4 0 none body 4 1 5 1 5 0 + 1\nend\n\
-        final\narea 0 0 8 8\nbot 0 1 0 1 0 + 1\nbot 1 1 1 1 0 + 1\nbot 2 1 2 1 0 + 0\nbot 0 5 0 5 0 + 1\nbot 1 5 1 5 0 + 1\n\
+        final\narea 0 0 8 8\nbot 0 1 0 1 0 + 1\nbot 1 1 1 1 0 + 1\n\
+        bot 2 1 2 1 0 + 0\nbot 0 5 0 5 0 + 1\nbot 1 5 1 5 0 + 1\n\
         end\n",
         "rounds 1\nwaiting 1\n",
     ),

@@ -1,4 +1,5 @@
-//! Journals that were tampered with: the worked example with its text behind it, in which the entry is another one.
+//! Journals that were tampered with: the worked example with its text behind it,
+//! in which the entry is another one.
 
 use amoebot_run::Status::{Differs, Done};
 use shared_tests::calls::{check_faults, check_rows};

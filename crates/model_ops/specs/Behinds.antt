@@ -1,4 +1,5 @@
--- What an amoebot asks of a pair of an end and a direction, by what is behind it. No public clause cites these.
+-- What an amoebot asks of a pair of an end and a direction, by what is behind it.
+-- No public clause cites these.
 use Rattle.std.specs.Prelude.{ℕ, Bool, true, false}
 use Rattle.std.specs.declared.result.Result.{Result}
 use Rattle.std.specs.declared.result.Result.TheVariants.{Ok, Err}
@@ -7,7 +8,8 @@ use Rattle.amoebot_state.specs.declared.verdict.Failure.TheVariants as failure
 use Rattle.amoebot_state.specs.declared.found.Behind.{Behind}
 use Rattle.amoebot_state.specs.declared.found.Behind.TheVariants as there
 
--- what an amoebot asks of a pair, by what is behind it: whether the node is occupied, whether it can be entered, and its occupant
+-- what an amoebot asks of a pair, by what is behind it: whether the node is occupied,
+-- whether it can be entered, and its occupant
 abbrev pub connected_there : Behind → Result Bool Failure
 connected_there there.NoPort = Err failure.NoPort
 connected_there there.Edge = Ok false

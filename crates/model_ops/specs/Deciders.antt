@@ -10,7 +10,8 @@ use Rattle.amoebot_state.specs.Patches.{diff}
 use Rattle.amoebot_state.specs.Zones.{Shown, IsShown, shown_alone}
 use Rattle.model_ops.specs.Reaches.{Acts, perform}
 
--- acts that lead somewhere from the configuration that has what is shown and no other amoebot; the patch is their difference
+-- acts that lead somewhere from the configuration that has what is shown and no other amoebot;
+-- the patch is their difference
 pub record ActsFor (s : Shown) (patch : Triples) : Type 0 where
   pub acts : Acts
   pub reached : Config
@@ -19,7 +20,8 @@ pub record ActsFor (s : Shown) (patch : Triples) : Type 0 where
 
 -- each change that f decides is made by acts
 abbrev pub DecidesByActs : (Shown → Verdict) → Type 0
-DecidesByActs f = (s : Shown) (change : Change) → IsShown s → f s ≡ verdict.Change change → ActsFor s change.patch
+DecidesByActs f =
+    (s : Shown) (change : Change) → IsShown s → f s ≡ verdict.Change change → ActsFor s change.patch
 
 -- and by acts with the guard on
 abbrev pub DecidesGuarded : (Shown → Verdict) → Type 0

@@ -35,8 +35,10 @@ use Rattle.model_ops.specs.WorkingCopies.{WorkingCopy, opened, own_id, IsWorking
 abbrev pub OneArcTestIsOneArc : Type 0
 OneArcTestIsOneArc = (xs : List Bool) → IsTrue (is_one_arc xs) ↔ IsOneArc xs
 
--- the answer of Peer is of the occupant behind the port; its direction is the only one of that amoebot's local directions that leads
--- back from the node behind the port to the node that the port is on; and the edge is at the head of a contracted neighbour
+-- the answer of Peer is of the occupant behind the port;
+-- its direction is the only one of that amoebot's local directions that leads back from the node
+-- behind the port to the node that the port is on; and the edge
+-- is at the head of a contracted neighbour
 pub record LooksBack (c : Config) (i : ℕ) (p : Port) (seen : Peer) : Type 0 where
   pub peer_id : ℕ
   pub by : occupant c (behind (bot_of c i) p) ≡ Some peer_id
@@ -56,8 +58,8 @@ PeerLooksBack =
     → peer c i p ≡ Ok seen
     → LooksBack c i p seen
 
--- d is valid, differs from c in its amoebots at most, has the same ids, and holds what c holds in each cell that is not of the
--- zone of i
+-- d is valid, differs from c in its amoebots at most, has the same ids,
+-- and holds what c holds in each cell that is not of the zone of i
 pub record KeepsRest (c : Config) (i : ℕ) (d : Config) : Type 0 where
   pub valid : IsValid d
   pub same : HasSameIds c d
@@ -65,13 +67,15 @@ pub record KeepsRest (c : Config) (i : ℕ) (d : Config) : Type 0 where
 
 -- so it is with what an activation reaches from a valid configuration
 abbrev pub ReachedKeepsRest : Type 0
-ReachedKeepsRest = (c : Config) (i : ℕ) (d : Config) → IsValid c → IsSome (bot_at c i) → Reaches c i d → KeepsRest c i d
+ReachedKeepsRest =
+    (c : Config) (i : ℕ) (d : Config) → IsValid c → IsSome (bot_at c i) → Reaches c i d → KeepsRest c i d
 
 -- where the occupied nodes of c are connected, those of d are
 abbrev pub StaysConnected : Config → Config → Type 0
 StaysConnected c d = IsConnected (occupied c) → IsConnected (occupied d)
 
--- each operation that changes a valid configuration and succeeds leaves its occupied nodes connected; Contract does with the guard
+-- each operation that changes a valid configuration and succeeds leaves its occupied nodes
+-- connected; Contract does with the guard
 pub record OperationsKeepConnected : Type 0 where
   pub writes : (c : Config) (i : ℕ) (p : Option Port) (x : ℕ) (s : ℤ) (d : Config)
       → IsValid c
@@ -122,41 +126,48 @@ pub record UnguardedSplits : Type 0 where
   pub split : IsConnected (occupied after) → ⊥
   pub guarded : contract before id true end ≡ Err WouldSplit
 
--- on d the operations of i answer as on c: those that ask, wholly; those that change something succeed on both, or fail alike
+-- on d the operations of i answer as on c: those that ask, wholly;
+-- those that change something succeed on both, or fail alike
 pub record AnswersAlike (i : ℕ) (c d : Config) : Type 0 where
   pub asked : sight d i ≡ sight c i
   pub writes : (p : Option Port) (x : ℕ) (s : ℤ) → result_err (write d i p x s) ≡ result_err (write c i p x s)
   pub expands : (p : Port) → result_err (expand d i p) ≡ result_err (expand c i p)
-  pub contracts : (guard : Bool) (e : End) → result_err (contract d i guard e) ≡ result_err (contract c i guard e)
+  pub contracts : (guard : Bool) (e : End)
+      → result_err (contract d i guard e) ≡ result_err (contract c i guard e)
   pub pushes : (p : Port) → result_err (push d i p) ≡ result_err (push c i p)
   pub pulls : (p : Port) → result_err (pull d i p) ≡ result_err (pull c i p)
 
--- an activation meets the same answers on d as on c: the same writes succeed on both, or fail alike; behind writes that succeed each
--- operation answers alike; and so whole acts succeed on both, or fail alike
+-- an activation meets the same answers on d as on c: the same writes succeed on both,
+-- or fail alike; behind writes that succeed each operation answers alike;
+-- and so whole acts succeed on both, or fail alike
 pub record MeetsTheSame (i : ℕ) (c d : Config) : Type 0 where
   pub writes : (ws : List Writing) → result_err (write_all d i ws) ≡ result_err (write_all c i ws)
-  pub behind : (ws : List Writing) (m n : Config) → write_all c i ws ≡ Ok m → write_all d i ws ≡ Ok n → AnswersAlike i m n
+  pub behind : (ws : List Writing) (m n : Config) → write_all c i ws ≡ Ok m
+      → write_all d i ws ≡ Ok n → AnswersAlike i m n
   pub acts : (acts : Acts) → result_err (perform d i acts) ≡ result_err (perform c i acts)
 
 -- so it is on each two valid configurations that show the same
 abbrev pub ShownMeetsTheSame : Type 0
 ShownMeetsTheSame =
-    (c d : Config) (i : ℕ) → IsValid c → IsValid d → IsSome (bot_at c i) → shown d i ≡ shown c i → MeetsTheSame i c d
+    (c d : Config) (i : ℕ) → IsValid c → IsValid d
+    → IsSome (bot_at c i) → shown d i ≡ shown c i → MeetsTheSame i c d
 
--- the difference of d to c is in the order of a patch, with at most one node; each cell that it lists differs, and is one of the zone
--- of i; its old values are those of c
+-- the difference of d to c is in the order of a patch, with at most one node;
+-- each cell that it lists differs, and is one of the zone of i; its old values are those of c
 pub record DiffIsExact (c : Config) (i : ℕ) (d : Config) : Type 0 where
   pub ordered : IsOrdered (plain_patch (diff c d))
-  pub differs : All (λ (p : CellName × Cell). value c (cell_of p) ≢ Some (cell_value p)) (plain_patch (diff c d))
+  pub differs : All (λ (p : CellName × Cell). value c (cell_of p) ≢ Some (cell_value p))
+      (plain_patch (diff c d))
   pub listed : All (λ (p : CellName × Cell). Contains (zone c i) (cell_of p)) (plain_patch (diff c d))
   pub found : HasOldValues c (diff c d)
 
 -- so it is with what an activation reaches from a valid configuration
 abbrev pub ReachedDiffIsExact : Type 0
-ReachedDiffIsExact = (c : Config) (i : ℕ) (d : Config) → IsValid c → IsSome (bot_at c i) → Reaches c i d → DiffIsExact c i d
+ReachedDiffIsExact =
+    (c : Config) (i : ℕ) (d : Config) → IsValid c → IsSome (bot_at c i) → Reaches c i d → DiffIsExact c i d
 
--- the acts that lead from c to `to` lead from d to a configuration; the difference of `to` to c leads there from d, and is the
--- difference there
+-- the acts that lead from c to `to` lead from d to a configuration;
+-- the difference of `to` to c leads there from d, and is the difference there
 pub record LeadsAlso (c : Config) (i : ℕ) (acts : Acts) (to d : Config) : Type 0 where
   pub reached : Config
   pub performed : perform d i acts ≡ Ok reached
@@ -174,7 +185,8 @@ ReachedLeadsAlso =
     → perform c i acts ≡ Ok to
     → LeadsAlso c i acts to d
 
--- a working copy is one from the first; writes leave it unmoved, and a movement leaves it a working copy
+-- a working copy is one from the first; writes leave it unmoved,
+-- and a movement leaves it a working copy
 pub record CopiesWork : Type 0 where
   pub opens : (s : Shown) → IsShown s → IsWorking (opened s) × IsUnmoved (opened s)
   pub writes : (w : WorkingCopy) (p : Option Port) (x : ℕ) (s : ℤ) (d : Config)
@@ -188,8 +200,9 @@ pub record CopiesWork : Type 0 where
       → move w.reached (own_id w) guard m ≡ Ok d
       → IsWorking (record w { reached = d })
 
--- a working copy stands for a configuration: acts that lead to what the copy reached lead from there to one other configuration; the
--- copy's changes lead there, and are the difference there; as long as the copy is unmoved, the operations answer alike on both
+-- a working copy stands for a configuration: acts that lead to what the copy reached lead
+-- from there to one other configuration; the copy's changes lead there,
+-- and are the difference there; as long as the copy is unmoved, the operations answer alike on both
 pub record StandsFor (w : WorkingCopy) (d : Config) : Type 0 where
   pub reached : Config
   pub same_acts : (acts : Acts)
@@ -201,7 +214,8 @@ pub record StandsFor (w : WorkingCopy) (d : Config) : Type 0 where
 
 -- so it does for each valid configuration that shows what was found
 abbrev pub CopyStandsForWorlds : Type 0
-CopyStandsForWorlds = (w : WorkingCopy) (d : Config) → IsWorking w → IsValid d → shown d (own_id w) ≡ w.found → StandsFor w d
+CopyStandsForWorlds =
+    (w : WorkingCopy) (d : Config) → IsWorking w → IsValid d → shown d (own_id w) ≡ w.found → StandsFor w d
 
 -- what decides by acts keeps the laws of deciders
 abbrev pub ActsKeepDeciderLaws : Type 0

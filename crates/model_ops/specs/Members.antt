@@ -1,4 +1,5 @@
--- The amoebots of a neighbourhood, each as it was found and as it is now, as a site keeps them. No public clause cites these.
+-- The amoebots of a neighbourhood, each as it was found and as it is now, as a site keeps them.
+-- No public clause cites these.
 use Rattle.std.specs.Prelude.{◌≡◌, ℕ, ◌≤◌, List, [], ◌∷◌, ◌++◌, IsSome, length, map, filter, Bool, false, not, ◌&&◌, ◌||◌, if◌then◌else◌, nat_eq, nat_lt, min}
 use Rattle.std.specs.List.{All, filter_map, find, fold, list_any}
 use Rattle.std.specs.declared.option.Option.{Option}
@@ -52,7 +53,8 @@ config_found = config_by (λ m. m.found)
 abbrev pub config_now : Config → List Member → Config
 config_now = config_by (λ m. m.now)
 
--- the working copy in a frame: what the members as found show to the amoebot, and the configuration of the members as they are
+-- the working copy in a frame: what the members as found show to the amoebot,
+-- and the configuration of the members as they are
 abbrev pub copy_of : Config → ℕ → List Member → WorkingCopy
 copy_of c own ms = record { found = shown (config_found c ms) own; reached = config_now c ms }
 
@@ -60,8 +62,8 @@ copy_of c own ms = record { found = shown (config_found c ms) own; reached = con
 abbrev pub most_members : ℕ
 most_members = 9
 
--- what a site keeps in a frame: no two members have one id, the amoebot itself is the first, they are at most nine, and together
--- they are what some valid configuration showed to the amoebot
+-- what a site keeps in a frame: no two members have one id, the amoebot itself is the first,
+-- they are at most nine, and together they are what some valid configuration showed to the amoebot
 pub record IsSite (c : Config) (own : ℕ) (ms : List Member) : Type 0 where
   pub apart : AreApart ms
   pub first : IsFirst own ms
@@ -99,7 +101,8 @@ abbrev pub lower : ℕ → Option ℕ → ℕ
 lower i None = i
 lower i (Some j) = min i j
 
--- the id on a node: the lowest of the members that have the node, as they were found or as they are now
+-- the id on a node: the lowest of the members that have the node,
+-- as they were found or as they are now
 abbrev pub id_by : (Member → Bot) → List Member → Node → Option ℕ
 id_by part [] v = None
 id_by part (m ∷ ms) v = if is_own (part m) v then Some (lower m.id (id_by part ms v)) else id_by part ms v
@@ -135,6 +138,8 @@ is_changed m = not (bot_eq m.found m.now)
 abbrev pub is_crossed : Member → Node → Bool
 is_crossed m v = (is_own m.found v && not (is_own m.now v)) || (is_own m.now v && not (is_own m.found v))
 
--- the first node of a member whose occupant has changed, and then the bodies that have, in rising id
+-- the first node of a member whose occupant has changed, and then the bodies that have,
+-- in rising id
 abbrev pub changed_cells : List Member → Member → Triples
-changed_cells ms m = changed_spot ms (find (has_changed ms) (nodes_of m)) ++ map body_change (ranked (filter is_changed ms))
+changed_cells ms m =
+    changed_spot ms (find (has_changed ms) (nodes_of m)) ++ map body_change (ranked (filter is_changed ms))

@@ -1,6 +1,8 @@
--- The operations of the model, each a partial function of a configuration and an id of it. Their names are the paper's, but for Free and
--- Peer. Their conditions, the failures, the order in which these are tried, and the answers are this project's profile. The id has to be
--- there; other ids may have no amoebot.
+-- The operations of the model, each a partial function of a configuration and an id of it.
+-- Their names are the paper's, but for Free and Peer.
+-- Their conditions, the failures, the order in which these are tried,
+-- and the answers are this project's profile.
+-- The id has to be there; other ids may have no amoebot.
 use Rattle.std.specs.Prelude.{ℕ, ℤ, pos, negsuc, unsigned_abs, List, slice_index, slice_set, Bool, false, not, ◌&&◌, ◌||◌, if◌then◌else◌, is_none, nat_le}
 use Rattle.std.specs.declared.option.Option.{Option}
 use Rattle.std.specs.declared.option.Option.TheVariants.{Some, None}
@@ -83,8 +85,9 @@ write c i p x s =
     need (is_value c.maxes x s) OutOfRange
     (Ok (set_bot c n (with_value (bot_of c n) x (unsigned_abs s)))))
 
--- what the amoebot a sees of its neighbour d over the edge behind its port: whether d is expanded, whether the edge is at d's
--- head, and the edge's local direction at d, which is opposite to its direction at a
+-- what the amoebot a sees of its neighbour d over the edge behind its port: whether d is expanded,
+-- whether the edge is at d's head, and the edge's local direction at d,
+-- which is opposite to its direction at a
 abbrev pub seen_over : Bot → Port → Bot → Peer
 seen_over a p d = record {
   expanded = not (is_contracted d);
@@ -132,8 +135,8 @@ expand c i p =
     (need (is_none (occupant c v)) Occupied
     (Ok (grow c i v))))))
 
--- the guard lets a node be left: it is off, or the occupied nodes round the node are one arc. An expanded amoebot's other node
--- is one of these, and no node outside the area and no wall is
+-- the guard lets a node be left: it is off, or the occupied nodes round the node are one arc.
+-- An expanded amoebot's other node is one of these, and no node outside the area and no wall is
 abbrev pub may_leave : Config → Bool → Node → Bool
 may_leave c guard v = not guard || is_one_arc (ring_in (occupied c) v)
 
@@ -146,7 +149,8 @@ contract c i guard e =
     (need (may_leave c guard v) WouldSplit
     (Ok (shrink c i v)))
 
--- Push: an expanded neighbour leaves the node behind the port, and a contracted amoebot's head enters it
+-- Push: an expanded neighbour leaves the node behind the port,
+-- and a contracted amoebot's head enters it
 abbrev pub push : Config → ℕ → Port → Result Config Failure
 push c i p =
     let b = bot_of c i in
@@ -157,7 +161,8 @@ push c i p =
     need (not (is_contracted (bot_of c n))) PeerNotExpanded
     (Ok (grow (shrink c n v) i v)))))
 
--- Pull: an expanded amoebot leaves the node that the port is on, and a contracted neighbour's head enters it
+-- Pull: an expanded amoebot leaves the node that the port is on,
+-- and a contracted neighbour's head enters it
 abbrev pub pull : Config → ℕ → Port → Result Config Failure
 pull c i p =
     let b = bot_of c i in

@@ -1,4 +1,5 @@
--- What an activation reaches. That it reads and writes and then makes at most one movement is the paper's.
+-- What an activation reaches.
+-- That it reads and writes and then makes at most one movement is the paper's.
 use Rattle.std.specs.Prelude.{◌≡◌, ℕ, ℤ, List, [], ◌∷◌, Bool}
 use Rattle.std.specs.declared.option.Option.{Option}
 use Rattle.std.specs.declared.result.Result.{Result}

@@ -19,4 +19,10 @@ pub record Sight : Type 0 where
 
 -- what the amoebot with an id can ask of a configuration
 abbrev pub sight : Config → ℕ → Sight
-sight c i = record { own = bot_of c i; connects = connected c i; frees = is_free c i; reads = read c i; peers = peer c i }
+sight c i = record {
+  own = bot_of c i;
+  connects = connected c i;
+  frees = is_free c i;
+  reads = read c i;
+  peers = peer c i;
+}

@@ -1,4 +1,5 @@
--- The working copy that an activation changes before anything is committed (this project's profile).
+-- The working copy that an activation changes before anything is committed
+-- (this project's profile).
 use Rattle.std.specs.Prelude.{ℕ}
 use Rattle.std.specs.declared.result.Result.{Result}
 use Rattle.std.specs.declared.result.Result.TheVariants.{Ok, Err}
@@ -40,7 +41,8 @@ IsUnmoved w = ReachesUnmoved (shown_alone w.found) w.found.bot w.reached
 abbrev pub changes : WorkingCopy → Triples
 changes w = diff (shown_alone w.found) w.reached
 
--- the copy after an operation on it: where that succeeds, its configuration is reached; a failure leaves the copy as it is
+-- the copy after an operation on it: where that succeeds, its configuration is reached;
+-- a failure leaves the copy as it is
 abbrev pub copy_after : WorkingCopy → Result Config Failure → WorkingCopy
 copy_after w (Ok d) = record w { reached = d }
 copy_after w (Err f) = w

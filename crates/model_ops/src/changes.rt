@@ -9,8 +9,9 @@ use amoebot_state::{Bot, Cell, CellName, Patch};
 use arrayvec::ArrayVec;
 use tri_lattice::Node;
 
-/// Adds the cells that differ from what was found, of whose nodes at most one does, which is one of the own ones: that node first,
-/// and then the bodies in rising id. Mostly one amoebot alone has changed.
+/// Adds the cells that differ from what was found, of whose nodes at most one does,
+/// which is one of the own ones: that node first, and then the bodies in rising id.
+/// Mostly one amoebot alone has changed.
 #[inline(always)]
 pub(crate) fn push_changed(patch: &mut Patch, members: &[Member], own: &Member)
     requires none { patch.old ≡ [] }
@@ -49,12 +50,13 @@ fn push_only(patch: &mut Patch, members: &[Member], own: &Member, only: &Member)
     push_body(patch, only);
 }
 
-/// Adds the first of some nodes whose occupant has changed, where this member alone has changed. It is one that the member entered or
-/// left.
+/// Adds the first of some nodes whose occupant has changed, where this member alone has changed.
+/// It is one that the member entered or left.
 fn push_crossed(patch: &mut Patch, members: &[Member], nodes: &[Node], only: &Member)
     requires room { length patch.old < most_pairs }
     requires alone { filter is_changed members.now ≡ only.now ∷ [] }
-    ensures value { patch.new ≡ patch.old ++ changed_spot members.now (find (has_changed members.now) nodes.now) }
+    ensures value { patch.new ≡ patch.old
+        ++ changed_spot members.now (find (has_changed members.now) nodes.now) }
     ensures few { length patch.new ≤ length patch.old + 1 }
 {
     for node in nodes {
@@ -91,7 +93,8 @@ fn push_several(patch: &mut Patch, members: &[Member], own: &Member)
 /// Adds the first of some nodes whose occupant has changed.
 fn push_node(patch: &mut Patch, members: &[Member], nodes: &[Node])
     requires { length patch.old < most_pairs }
-    ensures value { patch.new ≡ patch.old ++ changed_spot members.now (find (has_changed members.now) nodes.now) }
+    ensures value { patch.new ≡ patch.old
+        ++ changed_spot members.now (find (has_changed members.now) nodes.now) }
     ensures few { length patch.new ≤ length patch.old + 1 }
 {
     for node in nodes {

@@ -28,7 +28,8 @@ use tri_lattice::{Area, Node};
 /// The walls among the nodes of a zone.
 pub(crate) type Walls = ArrayVec<Node, 10>;
 
-/// A working copy that looks among its amoebots for each answer. The amoebot itself is the first of them.
+/// A working copy that looks among its amoebots for each answer.
+/// The amoebot itself is the first of them.
 #[derive(Drop)]
 pub(crate) struct Draft {
     pub(crate) members: ArrayVec<Member, ROOM>,
@@ -59,7 +60,8 @@ impl Draft {
         Ok(self.occupant(node).is_some())
     }
 
-    /// Whether the node behind a port is in the area, no wall and empty. NoPort, where it is none of the amoebot's.
+    /// Whether the node behind a port is in the area, no wall and empty.
+    /// NoPort, where it is none of the amoebot's.
     pub fn is_free(&self, port: Port) -> Result<bool, Failure>
         ensures { result ≡ is_free self.now.reached (own_id self.now) port }
     {
@@ -67,8 +69,9 @@ impl Draft {
         Ok(self.is_free_node(node))
     }
 
-    /// The value of a variable below 8: without a port the amoebot's own, with one that of the occupant behind it. NoPort;
-    /// NoNeighbour, where that node has none.
+    /// The value of a variable below 8: without a port the amoebot's own,
+    /// with one that of the occupant behind it.
+    /// NoPort; NoNeighbour, where that node has none.
     #[inline(never)]
     pub fn read(&self, port: Option<Port>, var: u8) -> Result<u8, Failure>
         requires { var < most_vars }
@@ -86,12 +89,15 @@ impl Draft {
         Ok(seen_over(self.own(), port, self.bot(id)))
     }
 
-    /// Gives a variable below 8 a value: without a port the amoebot's own, with one that of the occupant behind it. NoPort;
-    /// NoNeighbour; OutOfRange, the value is not in 0 to the variable's maximum. A write that fails changes nothing.
+    /// Gives a variable below 8 a value: without a port the amoebot's own,
+    /// with one that of the occupant behind it.
+    /// NoPort; NoNeighbour; OutOfRange, the value is not in 0 to the variable's maximum.
+    /// A write that fails changes nothing.
     pub fn write(&mut self, port: Option<Port>, var: u8, value: i32) -> Result<(), Failure>
         requires { var < most_vars }
         ensures value { result ≡ done (write self.old.reached (own_id self.old) port var value) }
-        ensures after { self.new ≡ copy_after self.old (write self.old.reached (own_id self.old) port var value) }
+        ensures after { self.new ≡ copy_after self.old
+            (write self.old.reached (own_id self.old) port var value) }
         ensures stays { (i : ℕ) → all_behind self.new.reached i ≡ all_behind self.old.reached i }
     {
         let id = self.owner(port)?;
@@ -102,8 +108,9 @@ impl Draft {
         Ok(())
     }
 
-    /// The amoebot's head enters the node behind a port, and its tail stays. NotContracted, it is expanded; NoPort; Edge, the
-    /// node is outside the area; Blocked, it is a wall; Occupied.
+    /// The amoebot's head enters the node behind a port, and its tail stays.
+    /// NotContracted, it is expanded; NoPort; Edge, the node is outside the area; Blocked,
+    /// it is a wall; Occupied.
     pub fn expand(&mut self, port: Port) -> Result<(), Failure>
         ensures value { result ≡ done (expand self.old.reached (own_id self.old) port) }
         ensures after { self.new ≡ copy_after self.old (expand self.old.reached (own_id self.old) port) }
@@ -126,11 +133,13 @@ impl Draft {
         Ok(())
     }
 
-    /// The amoebot leaves the node of an end, and is contracted in its other one. NotExpanded, it is contracted; WouldSplit, the
-    /// guard is on and the occupied nodes round the node, of which its other one is one, are not one arc.
+    /// The amoebot leaves the node of an end, and is contracted in its other one.
+    /// NotExpanded, it is contracted; WouldSplit, the guard is on and the occupied nodes round
+    /// the node, of which its other one is one, are not one arc.
     pub fn contract(&mut self, end: End, guard: bool) -> Result<(), Failure>
         ensures value { result ≡ done (contract self.old.reached (own_id self.old) guard end) }
-        ensures after { self.new ≡ copy_after self.old (contract self.old.reached (own_id self.old) guard end) }
+        ensures after { self.new ≡ copy_after self.old
+            (contract self.old.reached (own_id self.old) guard end) }
     {
         let own = self.own();
         if own.is_contracted() {
@@ -144,8 +153,8 @@ impl Draft {
         Ok(())
     }
 
-    /// The neighbour behind a port leaves the node there, and the amoebot's head enters it. NotContracted; NoPort; NoNeighbour;
-    /// PeerNotExpanded, the neighbour is contracted.
+    /// The neighbour behind a port leaves the node there, and the amoebot's head enters it.
+    /// NotContracted; NoPort; NoNeighbour; PeerNotExpanded, the neighbour is contracted.
     pub fn push(&mut self, port: Port) -> Result<(), Failure>
         ensures value { result ≡ done (push self.old.reached (own_id self.old) port) }
         ensures after { self.new ≡ copy_after self.old (push self.old.reached (own_id self.old) port) }
@@ -163,8 +172,9 @@ impl Draft {
         Ok(())
     }
 
-    /// The amoebot leaves the node that a port is on, and the head of the neighbour behind the port enters it. NotExpanded;
-    /// NoPort; NoNeighbour; PeerNotContracted, the neighbour is expanded.
+    /// The amoebot leaves the node that a port is on, and the head
+    /// of the neighbour behind the port enters it.
+    /// NotExpanded; NoPort; NoNeighbour; PeerNotContracted, the neighbour is expanded.
     #[tactic(auto, using(crate::proofs::Answered::neighbour_next))]
     pub fn pull(&mut self, port: Port) -> Result<(), Failure>
         ensures value { result ≡ done (pull self.old.reached (own_id self.old) port) }
@@ -183,8 +193,9 @@ impl Draft {
         Ok(())
     }
 
-    /// Adds the cells that differ from what was found, with their values then and now, to an empty patch: at most one node, which stands
-    /// first, and the bodies in rising id. What the copy has reached is reached by writes and then at most one movement.
+    /// Adds the cells that differ from what was found, with their values then and now,
+    /// to an empty patch: at most one node, which stands first, and the bodies in rising id.
+    /// What the copy has reached is reached by writes and then at most one movement.
     pub fn push_changes(&self, patch: &mut Patch)
         requires none { patch.old ≡ [] }
         requires reaches { Reaches (shown_alone self.now.found) (own_id self.now) self.now.reached }
@@ -266,7 +277,8 @@ impl Draft {
 
     /// The node behind a port of the amoebot.
     fn behind(&self, port: Port) -> Result<Node, Failure>
-        ensures { let b = own_bot self.now in result ≡ need (is_port b port) Failure.NoPort (Ok (behind b port)) }
+        ensures { let b = own_bot self.now in
+            result ≡ need (is_port b port) Failure.NoPort (Ok (behind b port)) }
     {
         let own = self.own();
         if own.is_port(port) {
@@ -299,7 +311,8 @@ impl Draft {
     /// The number as a variable keeps it, where it is one of its values.
     fn stored(&self, var: u8, value: i32) -> Result<u8, Failure>
         requires { var < most_vars }
-        ensures { result ≡ need (is_value self.now.reached.maxes var value) Failure.OutOfRange (Ok (unsigned_abs value)) }
+        ensures { result ≡ need (is_value self.now.reached.maxes var value) Failure.OutOfRange
+            (Ok (unsigned_abs value)) }
     {
         if value < 0 || value > i32::from(self.maxes[usize::from(var)]) {
             Err(Failure::OutOfRange)

@@ -86,7 +86,8 @@ pub(crate) fn add(members: &mut ArrayVec<Member, ROOM>, member: &Member)
     members.insert(place, *member);
 }
 
-/// Adds the amoebots of a neighbourhood, which are those of the bodies among its cells, in the order of the cells.
+/// Adds the amoebots of a neighbourhood, which are those of the bodies among its cells,
+/// in the order of the cells.
 pub(crate) fn gather(members: &mut ArrayVec<Member, ROOM>, found: &Found)
     requires { members.old.items ≡ [] }
     ensures value { members.new.items ≡ gathered found.now }

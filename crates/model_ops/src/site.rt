@@ -18,9 +18,10 @@ use std::marker::Model;
 
 /// A working copy of what an amoebot was shown, on which it operates before anything is committed.
 ///
-/// Until a movement is tried, it looks where it searched when it was made. Until one succeeds, its answers are those of each world
-/// that shows what was found. Once one has, the nodes round a new place were not found: what stands there is not known to the copy,
-/// which takes them for empty.
+/// Until a movement is tried, it looks where it searched when it was made.
+/// Until one succeeds, its answers are those of each world that shows what was found.
+/// Once one has, the nodes round a new place were not found:
+/// what stands there is not known to the copy, which takes them for empty.
 #[derive(Drop)]
 pub struct Site {
     pub(crate) draft: Draft,
@@ -73,7 +74,8 @@ impl Site {
         }
     }
 
-    /// Whether the node behind a port is in the area, no wall, and empty. NoPort, where it is none of the amoebot's.
+    /// Whether the node behind a port is in the area, no wall, and empty.
+    /// NoPort, where it is none of the amoebot's.
     pub fn is_free(&self, port: Port) -> Result<bool, Failure>
         ensures { result ≡ is_free self.now.reached (own_id self.now) port }
     {
@@ -83,8 +85,9 @@ impl Site {
         }
     }
 
-    /// The value of a variable below 8: without a port the amoebot's own, with one that of the occupant behind it. NoPort;
-    /// NoNeighbour, where that node has none.
+    /// The value of a variable below 8: without a port the amoebot's own,
+    /// with one that of the occupant behind it.
+    /// NoPort; NoNeighbour, where that node has none.
     #[inline(always)]
     pub fn read(&self, port: Option<Port>, var: u8) -> Result<u8, Failure>
         requires { var < most_vars }
@@ -110,18 +113,22 @@ impl Site {
         self.draft.peer(port)
     }
 
-    /// Gives a variable below 8 a value: without a port the amoebot's own, with one that of the occupant behind it. NoPort;
-    /// NoNeighbour; OutOfRange, the value is not in 0 to the variable's maximum. A write that fails changes nothing.
+    /// Gives a variable below 8 a value: without a port the amoebot's own,
+    /// with one that of the occupant behind it.
+    /// NoPort; NoNeighbour; OutOfRange, the value is not in 0 to the variable's maximum.
+    /// A write that fails changes nothing.
     pub fn write(&mut self, port: Option<Port>, var: u8, value: i32) -> Result<(), Failure>
         requires { var < most_vars }
         ensures value { result ≡ done (write self.old.reached (own_id self.old) port var value) }
-        ensures after { self.new ≡ copy_after self.old (write self.old.reached (own_id self.old) port var value) }
+        ensures after { self.new ≡ copy_after self.old
+            (write self.old.reached (own_id self.old) port var value) }
     {
         self.draft.write(port, var, value)
     }
 
-    /// The amoebot's head enters the node behind a port, and its tail stays. NotContracted, it is expanded; NoPort; Edge, the
-    /// node is outside the area; Blocked, it is a wall; Occupied.
+    /// The amoebot's head enters the node behind a port, and its tail stays.
+    /// NotContracted, it is expanded; NoPort; Edge, the node is outside the area; Blocked,
+    /// it is a wall; Occupied.
     pub fn expand(&mut self, port: Port) -> Result<(), Failure>
         ensures value { result ≡ done (expand self.old.reached (own_id self.old) port) }
         ensures after { self.new ≡ copy_after self.old (expand self.old.reached (own_id self.old) port) }
@@ -130,18 +137,20 @@ impl Site {
         self.draft.expand(port)
     }
 
-    /// The amoebot leaves the node of an end, and is contracted in its other one. NotExpanded, it is contracted; WouldSplit, the
-    /// guard is on and the occupied nodes round the node, of which its other one is one, are not one arc.
+    /// The amoebot leaves the node of an end, and is contracted in its other one.
+    /// NotExpanded, it is contracted; WouldSplit, the guard is on and the occupied nodes round
+    /// the node, of which its other one is one, are not one arc.
     pub fn contract(&mut self, end: End, guard: bool) -> Result<(), Failure>
         ensures value { result ≡ done (contract self.old.reached (own_id self.old) guard end) }
-        ensures after { self.new ≡ copy_after self.old (contract self.old.reached (own_id self.old) guard end) }
+        ensures after { self.new ≡ copy_after self.old
+            (contract self.old.reached (own_id self.old) guard end) }
     {
         self.around = None;
         self.draft.contract(end, guard)
     }
 
-    /// The neighbour behind a port leaves the node there, and the amoebot's head enters it. NotContracted; NoPort; NoNeighbour;
-    /// PeerNotExpanded, the neighbour is contracted.
+    /// The neighbour behind a port leaves the node there, and the amoebot's head enters it.
+    /// NotContracted; NoPort; NoNeighbour; PeerNotExpanded, the neighbour is contracted.
     pub fn push(&mut self, port: Port) -> Result<(), Failure>
         ensures value { result ≡ done (push self.old.reached (own_id self.old) port) }
         ensures after { self.new ≡ copy_after self.old (push self.old.reached (own_id self.old) port) }
@@ -150,8 +159,9 @@ impl Site {
         self.draft.push(port)
     }
 
-    /// The amoebot leaves the node that a port is on, and the head of the neighbour behind the port enters it. NotExpanded;
-    /// NoPort; NoNeighbour; PeerNotContracted, the neighbour is expanded.
+    /// The amoebot leaves the node that a port is on, and the head
+    /// of the neighbour behind the port enters it.
+    /// NotExpanded; NoPort; NoNeighbour; PeerNotContracted, the neighbour is expanded.
     pub fn pull(&mut self, port: Port) -> Result<(), Failure>
         ensures value { result ≡ done (pull self.old.reached (own_id self.old) port) }
         ensures after { self.new ≡ copy_after self.old (pull self.old.reached (own_id self.old) port) }
@@ -160,8 +170,9 @@ impl Site {
         self.draft.pull(port)
     }
 
-    /// The cells that differ from what was found, with their values now: at most one node, which stands first, and the bodies in
-    /// rising id. What the copy has reached is reached by writes and then at most one movement.
+    /// The cells that differ from what was found, with their values now: at most one node,
+    /// which stands first, and the bodies in rising id.
+    /// What the copy has reached is reached by writes and then at most one movement.
     pub fn patch(&self) -> Patch
         requires { Reaches (shown_alone self.now.found) (own_id self.now) self.now.reached }
         ensures { result ≡ changes self.now }

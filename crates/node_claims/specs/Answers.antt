@@ -37,11 +37,13 @@ mark_of (turn.Failed why seen) = mark.Failed why seen.place
 mark_of (turn.Busy by) = mark.Busy by.cell by.by_caller by.by_turn by.by_bot by.place
 
 module _ {D : Type 0} (verdict : D → Shown → Verdict) where
-  -- the zone was claimed in its order, the whole of it and nothing more, and this is the verdict on what was found
+  -- the zone was claimed in its order, the whole of it and nothing more,
+  -- and this is the verdict on what was found
   pub record WasClaimed (old : Token D) (held : Pairs) (v : Verdict) : Type 0 where
     pub in_order : AreInOrder (about verdict old.view) (bot_in verdict old.view) held
     pub whole : next_of (about verdict old.view) (bot_in verdict old.view) held ≡ None
-    pub decided : (about verdict old.view).verdict (found (about verdict old.view) (bot_in verdict old.view) held) ≡ v
+    pub decided : (about verdict old.view).verdict
+        (found (about verdict old.view) (bot_in verdict old.view) held) ≡ v
 
   -- the caller at its next turn, with nothing held and one mark more
   abbrev pub marked_by : Token D → Mark → Token D
@@ -63,8 +65,8 @@ module _ {D : Type 0} (verdict : D → Shown → Verdict) where
     taken = None;
   })
 
-  -- what the answer says is so: Busy that the claim was refused; the others that the claim was got, with this verdict on what it found; and
-  -- Done that the entry of the change stands at its place
+  -- what the answer says is so: Busy that the claim was refused; the others that the claim was got,
+  -- with this verdict on what it found; and Done that the entry of the change stands at its place
   abbrev pub IsSo : {W : Type 0} → Token D → Token D → Turn W → Type 0
   IsSo old new (turn.Done receipt) =
       (held : Pairs) × (change : Change) × WasClaimed old held (decision.Change change)
@@ -72,13 +74,16 @@ module _ {D : Type 0} (verdict : D → Shown → Verdict) where
   IsSo old new (turn.Idle seen) =
       (held : Pairs) × WasClaimed old held decision.Idle × (new ≡ marked_by old (mark.Idle seen.place))
   IsSo old new (turn.Failed why seen) =
-      (held : Pairs) × WasClaimed old held (decision.Failed why) × (new ≡ marked_by old (mark.Failed why seen.place))
+      (held : Pairs) × WasClaimed old held (decision.Failed why)
+      × (new ≡ marked_by old (mark.Failed why seen.place))
   IsSo old new (turn.Busy by) = WasRefused verdict old new by
 
-  -- the answer is this turn's and is so, and the caller is at its next turn with the answer's mark, and nothing else
+  -- the answer is this turn's and is so, and the caller is at its next turn with the answer's mark,
+  -- and nothing else
   pub record HasAnswered {W : Type 0} (old new : Token D) (answer : Turn W) : Type 0 where
     pub caller : caller_of answer ≡ number_in old
     pub turn : turn_of answer ≡ (doing old).turn
     pub so : IsSo old new answer
     pub number : number_in new ≡ number_in old
-    pub gains : doing new ≡ at_next (about verdict old.view) (doing old).turn ((doing old).marks ++ mark_of answer ∷ [])
+    pub gains : doing new
+        ≡ at_next (about verdict old.view) (doing old).turn ((doing old).marks ++ mark_of answer ∷ [])

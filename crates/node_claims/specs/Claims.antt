@@ -11,7 +11,8 @@ use Rattle.claim_core.specs.Machine.{Setup, found, next_of, phase_of_verdict, op
 use Rattle.claim_rule.specs.Plays.{IsOthers, about, bot_in}
 use Rattle.claim_rule.specs.Tokens.{Token, RefusedOf, refused_of, number_in, doing, goes}
 
--- the cells were claimed in zone order: each was the next one by the values of those before it; the last one stands first
+-- the cells were claimed in zone order: each was the next one by the values of those before it;
+-- the last one stands first
 abbrev pub AreInOrder : Setup → ℕ → Pairs → Type 0
 AreInOrder g b [] = Unit {0}
 AreInOrder g b (p ∷ held) = (next_of g b held ≡ Some (cell_of p)) × AreInOrder g b held
@@ -21,20 +22,21 @@ abbrev pub at_next : Setup → ℕ → List Mark → Caller
 at_next g t marks = caller (t + 1) (opening_phase g (t + 1)) [] marks
 
 module _ {D : Type 0} (verdict : D → Shown → Verdict) where
-  -- the zone was claimed in its order and is held, the whole of it and nothing more, with the values that were read and the
-  -- decision on them
+  -- the zone was claimed in its order and is held, the whole of it and nothing more,
+  -- with the values that were read and the decision on them
   pub record IsClaimed (old new : Token D) : Type 0 where
     pub held : Pairs
     pub in_order : AreInOrder (about verdict old.view) (bot_in verdict old.view) held
     pub whole : next_of (about verdict old.view) (bot_in verdict old.view) held ≡ None
     pub now : new
         ≡ goes old (record (doing old) {
-          phase = phase_of_verdict ((about verdict old.view).verdict (found (about verdict old.view) (bot_in verdict old.view) held));
+          phase = phase_of_verdict ((about verdict old.view).verdict
+              (found (about verdict old.view) (bot_in verdict old.view) held));
           held = held;
         })
 
-  -- cells were won in zone order, and at the next one another caller's tag was found; all of them are free again, and the turn has
-  -- the mark that says so, and no other step was made
+  -- cells were won in zone order, and at the next one another caller's tag was found;
+  -- all of them are free again, and the turn has the mark that says so, and no other step was made
   pub record WasRefused (old new : Token D) (by : RefusedOf) : Type 0 where
     pub won : Pairs
     pub in_order : AreInOrder (about verdict old.view) (bot_in verdict old.view) won

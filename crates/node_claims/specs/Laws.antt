@@ -6,7 +6,8 @@ use Rattle.claim_rule.specs.Tokens.{Token}
 use Rattle.node_claims.specs.declared.turn.Turn.{Turn}
 use Rattle.node_claims.specs.Answers.{HasAnswered}
 
--- from one seat to another there is at most one answer: so Done, Idle, Failed and Busy exclude each other
+-- from one seat to another there is at most one answer: so Done, Idle,
+-- Failed and Busy exclude each other
 abbrev pub AnswerIsUnique : {D : Type 0} → Type 0 → (D → Shown → Verdict) → Type 0
 AnswerIsUnique {D} W verdict =
     (old new : Token D) (one two : Turn W)

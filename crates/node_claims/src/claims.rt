@@ -10,8 +10,9 @@ use claim_rule::{
     refuse, seal, unseal, unsettle, win,
 };
 
-/// Claims the zone of the caller's next turn, cell by cell in zone order. It stops at the first cell that another caller holds, and
-/// then frees what it has won; the turn has its mark.
+/// Claims the zone of the caller's next turn, cell by cell in zone order.
+/// It stops at the first cell that another caller holds, and then frees what it has won;
+/// the turn has its mark.
 pub fn try_claim<D: Decider, W: Manner>(
     seat: Seat<D, W>,
     field: &Field<'_, D, W>,
@@ -37,11 +38,13 @@ pub fn try_claim<D: Decider, W: Manner>(
     Ok(seal(held))
 }
 
-/// Marks the turn of a claim whose verdict is Idle or Failed, at the length that the journal has while the zone is held.
+/// Marks the turn of a claim whose verdict is Idle or Failed,
+/// at the length that the journal has while the zone is held.
 pub fn place<D: Decider, W: Manner>(claimed: &mut Claimed<D, W>, field: &Field<'_, D, W>) -> Seen<W>
     requires field { IsOf field.now claimed.old }
     requires looks { IsToLook claimed.old }
-    ensures marked { claimed.new ≡ goes claimed.old (marked_at (about D.verdict claimed.old.view) (doing claimed.old) result.place) }
+    ensures marked { claimed.new ≡ goes claimed.old
+        (marked_at (about D.verdict claimed.old.view) (doing claimed.old) result.place) }
     ensures frees { IsMarked claimed.new }
     ensures told { result ≡ placed_turn (number_in claimed.old) (doing claimed.old).turn result.place }
     ensures few { result.place ≤ most_turns }
@@ -49,22 +52,26 @@ pub fn place<D: Decider, W: Manner>(claimed: &mut Claimed<D, W>, field: &Field<'
     look(claimed, field)
 }
 
-/// Frees the zone of a turn that has its mark, the cell that was won last first. The values stay as they were found.
+/// Frees the zone of a turn that has its mark, the cell that was won last first.
+/// The values stay as they were found.
 pub fn release<D: Decider, W: Manner>(claimed: Claimed<D, W>, field: &Field<'_, D, W>) -> Seat<D, W>
     requires field { IsOf field.now claimed }
     requires looked { IsMarked claimed }
-    ensures { result ≡ goes claimed (at_next (about D.verdict claimed.view) (doing claimed).turn (doing claimed).marks) }
+    ensures { result ≡ goes claimed
+        (at_next (about D.verdict claimed.view) (doing claimed).turn (doing claimed).marks) }
 {
     free_all(unseal(claimed), field)
 }
 
-/// Frees the zone of a turn that has committed, the cell that was won last first. The values stay as they were committed.
+/// Frees the zone of a turn that has committed, the cell that was won last first.
+/// The values stay as they were committed.
 pub fn release_settled<D: Decider, W: Manner>(
     settled: Settled<D, W>,
     field: &Field<'_, D, W>,
 ) -> Seat<D, W>
     requires { IsOf field.now settled }
-    ensures { result ≡ goes settled (at_next (about D.verdict settled.view) (doing settled).turn (doing settled).marks) }
+    ensures { result ≡ goes settled
+        (at_next (about D.verdict settled.view) (doing settled).turn (doing settled).marks) }
 {
     free_all(unsettle(settled), field)
 }

@@ -1,4 +1,5 @@
-//! Claims of whole zones: all cells in zone order or none, and their release. What became of a turn that was made so.
+//! Claims of whole zones: all cells in zone order or none, and their release.
+//! What became of a turn that was made so.
 #![tactic(auto)]
 
 mod claims;

@@ -5,7 +5,8 @@ use amoebot_state::Failure;
 use claim_core::Mark;
 use claim_rule::{ByJournal, Receipt, Refused, Seen};
 
-/// What became of a turn. What it carries is made by steps on a field's words alone, all of one way of committing.
+/// What became of a turn.
+/// What it carries is made by steps on a field's words alone, all of one way of committing.
 #[derive(Drop)]
 pub enum Turn<W = ByJournal> {
     /// It committed its change.

@@ -1,4 +1,5 @@
--- Nodes and amoebots that a text can hold: coordinates and values in range, and 0 past the variables.
+-- Nodes and amoebots that a text can hold: coordinates and values in range,
+-- and 0 past the variables.
 use Rattle.std.specs.Prelude.{◌≡◌, ◌≤◌, ◌-◌, ℕ, ℤ, pos, negsuc, suc, length, drop, replicate}
 use Rattle.std.specs.List.{All}
 use Rattle.tri_lattice.specs.declared.node.Node.{Node}

@@ -32,7 +32,10 @@ abbrev pub up_to : ℕ → Reader ℕ
 up_to most = numeral (too_large most BadRange)
 
 unfoldable pub an_int : ℕ → Reader ℤ
-an_int most = either is_minus (the_line is_minus >>= λ line. up_to most >>= λ n. pure (negative n)) (up_to most >>= λ n. pure (pos n))
+an_int most =
+    either is_minus
+    (the_line is_minus >>= λ line. up_to most >>= λ n. pure (negative n))
+    (up_to most >>= λ n. pure (pos n))
 
 unfoldable pub a_node : Reader Node
 a_node = an_int most_coordinate >>= λ x. an_int most_coordinate >>= λ y. pure (a_node_of x y)

@@ -22,4 +22,5 @@ chir_word chir.Minus = codes "-"
 
 -- head, tail, rotation, chirality, and as many values as there are variables
 abbrev pub bot_words : ℕ → Bot → Words
-bot_words vars b = node_words b.head ++ node_words b.tail ++ decimal b.rot ∷ chir_word b.chir ∷ map decimal (take vars b.mem)
+bot_words vars b =
+    node_words b.head ++ node_words b.tail ++ decimal b.rot ∷ chir_word b.chir ∷ map decimal (take vars b.mem)

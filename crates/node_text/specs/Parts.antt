@@ -1,10 +1,12 @@
--- What several sections have: numbers, nodes, ends, ports and amoebots; and what the versions of documents have.
+-- What several sections have: numbers, nodes, ends, ports and amoebots;
+-- and what the versions of documents have.
 --   int    := [ "-" ] NUMBER
 --   node   := int int
 --   port   := ( "head" | "tail" ) NUMBER
 --   amoebot := node node NUMBER ( "+" | "-" ) values
 --   values := as many NUMBERs as there are variables
--- A coordinate farther than 9,999 from 0, a rotation or a direction above 5, and a value above 255 is a BadRange.
+-- A coordinate farther than 9,999 from 0, a rotation or a direction above 5,
+-- and a value above 255 is a BadRange.
 use Rattle.std.specs.Prelude.{ℕ, suc, ℤ, pos, ◌-ℤ◌, ◌-◌, Bool, ◌&&◌, nat_le, nat_lt, if◌then◌else◌, List, ◌++◌, length, replicate, Option, Some, None, codes}
 use Rattle.tri_lattice.specs.declared.node.Node.{Node}
 use Rattle.text_tokens.specs.declared.token.TokenKind.TheVariants.{Word, Sign}
@@ -56,7 +58,8 @@ IsUpTo most = IsNumeral (too_large most BadRange)
 
 -- a number that is below the least or above the greatest
 abbrev pub outside : ℕ → ℕ → Lexeme → Option RefusalKind
-outside least most t = if nat_le least (lexeme_value t) && nat_le (lexeme_value t) most then None else Some BadRange
+outside least most t =
+    if nat_le least (lexeme_value t) && nat_le (lexeme_value t) most then None else Some BadRange
 
 -- ---- versions
 
@@ -85,7 +88,8 @@ negative n = pos 0 -ℤ pos n
 
 -- a whole number, no farther from 0 than this; a minus may stand before its digits
 abbrev pub IsInt : ℕ → Lang ℤ
-IsInt most = Either (Then (IsThe is_minus) (λ line. Made (IsUpTo most) negative)) (Made (IsUpTo most) (λ n. pos n))
+IsInt most =
+    Either (Then (IsThe is_minus) (λ line. Made (IsUpTo most) negative)) (Made (IsUpTo most) (λ n. pos n))
 
 abbrev pub a_node_of : ℤ → ℤ → Node
 a_node_of x y = record { x = x; y = y }
@@ -111,7 +115,8 @@ abbrev pub memory : List ℕ → List ℕ
 memory values = values ++ replicate (most_vars - length values) 0
 
 abbrev pub a_bot_of : Node → Node → ℕ → Chir → List ℕ → Bot
-a_bot_of head tail rot chir values = record { head = head; tail = tail; rot = rot; chir = chir; mem = memory values }
+a_bot_of head tail rot chir values =
+    record { head = head; tail = tail; rot = rot; chir = chir; mem = memory values }
 
 abbrev pub IsBotText : ℕ → Lang Bot
 IsBotText vars =

@@ -1,5 +1,5 @@
-//! What several sections have: numbers, nodes, ends, ports and amoebots. No reader here takes memory, so none answers out of
-//! memory.
+//! What several sections have: numbers, nodes, ends, ports and amoebots.
+//! No reader here takes memory, so none answers out of memory.
 
 ghost use Rattle.std.specs.Prelude.{◌≡◌, ◌≢◌, ◌<◌, ◌≤◌, ◌≤ℤ◌, ◌-ℤ◌, pos, length, IfErr, IfOk};
 ghost use Rattle.tri_lattice.specs.Lattice.{IsNear};
@@ -26,14 +26,16 @@ pub fn read_word(tokens: &mut Tokens<'_>, text: &[u8]) -> Result<u32, ReadRefusa
     the_line(tokens, TokenKind::Word, text)
 }
 
-/// The word that has to stand here, for its line, where fewer than `most` stand before it. One too many is `TooMany`.
+/// The word that has to stand here, for its line, where fewer than `most` stand before it.
+/// One too many is `TooMany`.
 pub fn read_word_within(
     tokens: &mut Tokens<'_>,
     text: &[u8],
     most: u32,
     before: u32,
 ) -> Result<u32, ReadRefusal>
-    ensures reads { Gives (λ line. line) (reader.word_within text.now most before) tokens.old result tokens.new }
+    ensures reads { Gives (λ line. line)
+        (reader.word_within text.now most before) tokens.old result tokens.new }
     ensures room { IfOk result (λ _. before < most) }
     ensures sure { IfErr result (λ e. e ≢ NoMemory) }
 {

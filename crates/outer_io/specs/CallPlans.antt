@@ -1,9 +1,11 @@
--- Calls that fail by plan: each call has a number, and the plan lists the numbers of those that fail.
+-- Calls that fail by plan: each call has a number, and the plan lists
+-- the numbers of those that fail.
 use Rattle.std.specs.Prelude.{ℕ, List}
 use Rattle.std.specs.List.{Contains}
 use Rattle.outer_io.specs.Counted.{raised_count}
 
--- the most bytes that one call passes, the numbers of the calls that fail, and how many calls were made and failed
+-- the most bytes that one call passes, the numbers of the calls that fail,
+-- and how many calls were made and failed
 pub record CallPlan : Type 0 where
   pub piece : ℕ
   pub failing : List ℕ
@@ -20,7 +22,12 @@ FailsNext plan = Contains plan.failing plan.calls
 
 -- after a call that passed bytes or reported the end, and after one that failed
 abbrev pub after_good_call : CallPlan → CallPlan
-after_good_call plan = record { piece = plan.piece; failing = plan.failing; calls = raised_count plan.calls; faults = plan.faults }
+after_good_call plan = record {
+  piece = plan.piece;
+  failing = plan.failing;
+  calls = raised_count plan.calls;
+  faults = plan.faults;
+}
 
 abbrev pub after_failed_call : CallPlan → CallPlan
 after_failed_call plan = record {

@@ -14,7 +14,8 @@ pub record KeptBytes : Type 0 where
 abbrev pub nothing_kept : ℕ → KeptBytes
 nothing_kept room = record { room = room; bytes = []; is_whole = true }
 
--- after one more piece: the front of it for which there is room is kept, and what does not fit is dropped
+-- after one more piece: the front of it for which there is room is kept,
+-- and what does not fit is dropped
 abbrev pub kept_after : KeptBytes → List ℕ → KeptBytes
 kept_after kept piece = record {
   room = kept.room;
@@ -32,8 +33,10 @@ written_of kept = if kept.is_whole then Some kept.bytes else None
 
 -- two pieces are kept as one that is both, one behind the other
 abbrev pub PiecesAreKeptAsOne : Type 0
-PiecesAreKeptAsOne = (kept : KeptBytes) (one two : List ℕ) → kept_after (kept_after kept one) two ≡ kept_after kept (one ++ two)
+PiecesAreKeptAsOne = (kept : KeptBytes) (one two : List ℕ)
+    → kept_after (kept_after kept one) two ≡ kept_after kept (one ++ two)
 
 -- a text that was written whole is kept as one piece
 abbrev pub TextIsKeptAsOnePiece : Type 0
-TextIsKeptAsOnePiece = (old new : KeptBytes) (text : List ℕ) → Handed KeepsPiece old text (length text) new → new ≡ kept_after old text
+TextIsKeptAsOnePiece = (old new : KeptBytes) (text : List ℕ)
+    → Handed KeepsPiece old text (length text) new → new ≡ kept_after old text

@@ -15,10 +15,12 @@ pub record PlannedBytes : Type 0 where
 abbrev pub given_count : PlannedBytes → ℕ → ℕ
 given_count old room = min (min room old.plan.piece) (length old.bytes)
 
--- A read with room for so many bytes, the bytes that it gives, if it does not fail, and what it makes of the source.
+-- A read with room for so many bytes, the bytes that it gives, if it does not fail,
+-- and what it makes of the source.
 -- No byte is the end.
 pub data MemRead (old : PlannedBytes) (room : ℕ) : Option (List ℕ) → PlannedBytes → Type 0 where
-  fails : FailsNext old.plan → MemRead old room None (record { plan = after_failed_call old.plan; bytes = old.bytes })
+  fails : FailsNext old.plan
+      → MemRead old room None (record { plan = after_failed_call old.plan; bytes = old.bytes })
   gives : ¬ FailsNext old.plan → MemRead old room (Some (take (given_count old room) old.bytes))
       (record { plan = after_good_call old.plan; bytes = drop (given_count old room) old.bytes })
 
@@ -47,7 +49,8 @@ torn_bytes = record { plan = fresh_plan 2 (1 ∷ []); bytes = 7 ∷ 8 ∷ 9 ∷ 
 
 -- what is left of them after some calls, of which so many failed
 abbrev pub torn_left : ℕ → ℕ → List ℕ → PlannedBytes
-torn_left calls faults bytes = record { plan = record { piece = 2; failing = 1 ∷ []; calls = calls; faults = faults }; bytes = bytes }
+torn_left calls faults bytes =
+    record { plan = record { piece = 2; failing = 1 ∷ []; calls = calls; faults = faults }; bytes = bytes }
 
 -- reads of a room of five: two bytes, a fault, the last byte, and the end
 pub record TornReads : Type 0 where

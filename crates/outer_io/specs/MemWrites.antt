@@ -20,12 +20,19 @@ empty_room plan room = record { plan = plan; room = room; bytes = [] }
 abbrev pub next_count : PlannedRoom → List ℕ → ℕ
 next_count old piece = min (min (length piece) old.plan.piece) (old.room - length old.bytes)
 
--- a write of a piece, the number of bytes that it takes, if it does not fail, and what it makes of the sink
+-- a write of a piece, the number of bytes that it takes, if it does not fail,
+-- and what it makes of the sink
 pub data MemWrite (old : PlannedRoom) (piece : List ℕ) : Option ℕ → PlannedRoom → Type 0 where
   fails : FailsNext old.plan ⊎ (old.room ≤ length old.bytes)
-      → MemWrite old piece None (record { plan = after_failed_call old.plan; room = old.room; bytes = old.bytes })
-  takes : ¬ FailsNext old.plan → length old.bytes < old.room → MemWrite old piece (Some (next_count old piece))
-      (record { plan = after_good_call old.plan; room = old.room; bytes = old.bytes ++ take (next_count old piece) piece })
+      → MemWrite old piece None
+      (record { plan = after_failed_call old.plan; room = old.room; bytes = old.bytes })
+  takes : ¬ FailsNext old.plan → length old.bytes < old.room
+      → MemWrite old piece (Some (next_count old piece))
+      (record {
+        plan = after_good_call old.plan;
+        room = old.room;
+        bytes = old.bytes ++ take (next_count old piece) piece;
+      })
 
 -- the number of an answer
 abbrev pub taken_of : {E : Type 0} → Result ℕ E → Option ℕ
@@ -51,7 +58,8 @@ torn_taken calls faults bytes = record {
   bytes = bytes;
 }
 
--- writes of all that is left of four bytes: two are taken, none by plan, one, and none since the room is full
+-- writes of all that is left of four bytes: two are taken, none by plan, one,
+-- and none since the room is full
 pub record TornWrites : Type 0 where
   pub two : MemWrite torn_room (6 ∷ 7 ∷ 8 ∷ 9 ∷ []) (Some 2) (torn_taken 1 0 (6 ∷ 7 ∷ []))
   pub fault : MemWrite (torn_taken 1 0 (6 ∷ 7 ∷ [])) (8 ∷ 9 ∷ []) None (torn_taken 2 1 (6 ∷ 7 ∷ []))

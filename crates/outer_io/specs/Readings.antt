@@ -6,7 +6,8 @@ use Rattle.outer_io.specs.declared.errors.ReadError.{ReadError}
 use Rattle.outer_io.specs.declared.errors.ReadError.TheVariants.{ReadFault, TooLong, NoMemory}
 use Rattle.outer_io.specs.Calls.{Passed, PassedToEnd, PassedUpToFault}
 
--- the bytes are all that the source had left, no more than the limit: it was read to its end, which the last read told, and no read failed
+-- the bytes are all that the source had left, no more than the limit: it was read to its end,
+-- which the last read told, and no read failed
 pub record ReadsWhole {T : Type 0} (left : T → Option (List ℕ)) (gives : T → List ℕ → T → Type 0)
     (limit : ℕ) (old new : T) (bytes : List ℕ) : Type 0 where
   pub all : Consumes (left old) (left new) bytes
@@ -28,7 +29,8 @@ pub record ReadsSome {T : Type 0} (left : T → Option (List ℕ)) (gives : T �
   pub within : length bytes ≤ limit
   pub reads : Passed gives old bytes new
 
--- no more bytes than the limit were got, before any read told the end, and then a read failed, which was the last
+-- no more bytes than the limit were got, before any read told the end, and then a read failed,
+-- which was the last
 pub record ReadsUpToFault {T : Type 0} (left : T → Option (List ℕ)) (gives : T → List ℕ → T → Type 0)
     (fails : T → T → Type 0) (limit : ℕ) (old new : T) (bytes : List ℕ) : Type 0 where
   pub all : Consumes (left old) (left new) bytes

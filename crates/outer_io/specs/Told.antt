@@ -22,4 +22,5 @@ Stays old (Some now) = old ≡ Some now
 
 -- a write took the first bytes of a piece, as many as its answer says, and none where it failed
 abbrev pub TakesFront : {E : Type 0} → Option (List ℕ) → Option (List ℕ) → Result ℕ E → List ℕ → Type 0
-TakesFront old new answer piece = MatchResult answer (λ taken. Grows old new (take taken piece)) (λ _. Stays old new)
+TakesFront old new answer piece =
+    MatchResult answer (λ taken. Grows old new (take taken piece)) (λ _. Stays old new)

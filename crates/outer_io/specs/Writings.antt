@@ -3,9 +3,11 @@ use Rattle.std.specs.Prelude.{◌≡◌, ℕ, ◌+◌, ◌<◌, List, [], ◌∷
 use Rattle.std.specs.declared.option.Option.{Option}
 use Rattle.outer_io.specs.Told.{Grows}
 
--- The first `count` bytes of a text went out in writes one after another, at least one byte in each.
+-- The first `count` bytes of a text went out in writes one after another,
+-- at least one byte in each.
 -- Each write was given all that was left of the text, none failed, and there was no other write.
-pub data Handed {T : Type 0} (takes : T → List ℕ → ℕ → T → Type 0) (first : T) (text : List ℕ) : ℕ → T → Type 0 where
+pub data Handed {T : Type 0} (takes : T → List ℕ → ℕ → T → Type 0)
+    (first : T) (text : List ℕ) : ℕ → T → Type 0 where
   none : Handed takes first text 0 first
   more : {count taken : ℕ} {mid last : T}
       → Handed takes first text count mid

@@ -1,5 +1,5 @@
-//! Where bytes come from and go to: sources and sinks that may tell their bytes and that count their faults,
-//! with a reader of whole documents and a writer of whole texts over them.
+//! Where bytes come from and go to: sources and sinks that may tell their bytes and that count
+//! their faults, with a reader of whole documents and a writer of whole texts over them.
 #![tactic(auto)]
 
 mod errors;

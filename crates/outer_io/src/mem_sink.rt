@@ -10,7 +10,8 @@ use crate::writing::Sink;
 use std::alloc::Global;
 use std::marker::Model;
 
-/// A sink into memory of a fixed room, of which some writes fail by plan, and each one once the room is full.
+/// A sink into memory of a fixed room, of which some writes fail by plan,
+/// and each one once the room is full.
 #[derive(Drop)]
 pub struct MemSink {
     plan: Plan,
@@ -32,8 +33,9 @@ impl Model for MemSink {
 impl MemSink {
     /// A sink with room for this many bytes, which takes at most `piece` bytes a write.
     ///
-    /// It takes the memory for all of them now, and none later. The writes are counted from 0, and one fails exactly
-    /// where its number is in `failing`, or no room is left.
+    /// It takes the memory for all of them now, and none later.
+    /// The writes are counted from 0, and one fails exactly where its number is in `failing`,
+    /// or no room is left.
     pub fn new(alloc: Global, room: u32, piece: u32, failing: &[u32]) -> Result<MemSink, NoMemory>
         requires { 1 ≤ piece }
         ensures { IfOk result (λ sink. sink ≡ empty_room (fresh_plan piece failing.now) room) }
@@ -61,7 +63,8 @@ impl Sink for MemSink {
 
     ghost fails = { λ old piece new. MemWrite old piece None new };
 
-    /// Takes as many bytes as the plan and the room let pass, or fails by plan or since no room is left.
+    /// Takes as many bytes as the plan and the room let pass,
+    /// or fails by plan or since no room is left.
     fn write(&mut self, piece: &[u8]) -> Result<usize, Failed>
         requires { 0 < length piece.now }
         ensures bound { IfOk result (λ taken. (1 ≤ taken) × (taken ≤ length piece.now)) }
@@ -89,7 +92,8 @@ pub fn mem_writes_are_one()
     ensures { MemWritesAreOne }
 {}
 
-/// Writes of four bytes to a room of three: two of them, a fault by plan, the next one, and a fault since the room is full.
+/// Writes of four bytes to a room of three: two of them, a fault by plan, the next one,
+/// and a fault since the room is full.
 pub fn torn_writes()
     ensures { TornWrites }
 {}

@@ -43,7 +43,8 @@ impl MemSource {
         failing: &[u32],
     ) -> Result<MemSource, NoMemory>
         requires { 1 ≤ piece }
-        ensures { IfOk result (λ source. source ≡ record { plan = fresh_plan piece failing.now; bytes = bytes.now }) }
+        ensures { IfOk result (λ source.
+            source ≡ record { plan = fresh_plan piece failing.now; bytes = bytes.now }) }
     {
         let plan = Plan::new(alloc, piece, failing)?;
         let bytes = Vec::from_slice(alloc, bytes)?;

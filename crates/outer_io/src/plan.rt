@@ -20,7 +20,12 @@ impl Model for Plan {
 
     ghost Value = { CallPlan };
 
-    ghost view = { λ plan. record { piece = plan.piece; failing = plan.failing.items; calls = plan.calls; faults = plan.faults } };
+    ghost view = { λ plan. record {
+      piece = plan.piece;
+      failing = plan.failing.items;
+      calls = plan.calls;
+      faults = plan.faults;
+    } };
 
     ghost invariant = { λ plan. 1 ≤ plan.piece };
 }

@@ -18,15 +18,18 @@ pub trait Source {
     /// How often a read failed. The count never falls, and may stay at 2^64 - 1, its last value.
     ghost faults: { Self → ℕ };
 
-    /// What a read that gave these bytes may make of the source. A source that does not say lets it be anything.
+    /// What a read that gave these bytes may make of the source.
+    /// A source that does not say lets it be anything.
     ghost gives: { Self → List ℕ → Self → Type 0 } = { λ _ _ _. ⊤ };
 
-    /// What a read that failed may make of the source. A source that does not say lets it be anything.
+    /// What a read that failed may make of the source.
+    /// A source that does not say lets it be anything.
     ghost fails: { Self → Self → Type 0 } = { λ _ _. ⊤ };
 
     /// Reads some of the bytes that are left into the front of `piece`, and gives their number.
     ///
-    /// 0 is the end of input. After a failure the bytes that are left are those that were left before.
+    /// 0 is the end of input.
+    /// After a failure the bytes that are left are those that were left before.
     fn read(&mut self, piece: &mut [u8]) -> Result<usize, Failed>
         requires { 0 < length piece.old }
         ensures bound { ReadsAtMost result piece.new }
@@ -57,24 +60,29 @@ impl Document {
     }
 }
 
-/// How many bytes one read asks for at most, so that a document of a mebibyte takes a few hundred reads.
+/// How many bytes one read asks for at most, so that a document
+/// of a mebibyte takes a few hundred reads.
 const PIECE: usize = 4096;
 
 /// Reads a source to its end, and gives its bytes, which are at most `limit`.
 ///
-/// It asks for at most one byte above the limit, so that it knows of a longer source without reading all of it. A read
-/// that fails or tells the end is the last one. After a refusal the source stands behind the bytes that were got.
+/// It asks for at most one byte above the limit, so that it knows of a longer
+/// source without reading all of it.
+/// A read that fails or tells the end is the last one.
+/// After a refusal the source stands behind the bytes that were got.
 ///
 /// # Errors
 ///
-/// `ReadFault` where a read failed, `TooLong` exactly where more than `limit` bytes were got, and `NoMemory`.
+/// `ReadFault` where a read failed, `TooLong` exactly where more than `limit` bytes were got,
+/// and `NoMemory`.
 pub fn read_document<S: Source>(
     alloc: Global,
     source: &mut S,
     limit: u32,
 ) -> Result<Document, ReadError>
     ensures whole { IfOk result (ReadsWhole S.left S.gives limit source.old source.new) }
-    ensures refused { IfErr result (λ error. (got : List ℕ) × ReadsUpTo S.left S.gives S.fails limit error source.old source.new got) }
+    ensures refused { IfErr result (λ error.
+        (got : List ℕ) × ReadsUpTo S.left S.gives S.fails limit error source.old source.new got) }
 
     ensures never_falls { S.faults source.old ≤ S.faults source.new }
     ensures fault { IsErrOf result ReadError.ReadFault → Rose (S.faults source.old) (S.faults source.new) }

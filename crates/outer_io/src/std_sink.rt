@@ -8,7 +8,8 @@ use crate::writing::Sink;
 use std::io::Write;
 use std::marker::Model;
 
-/// A sink over a writer of std, which tells no bytes. It is seen as the writer and the count of faults.
+/// A sink over a writer of std, which tells no bytes.
+/// It is seen as the writer and the count of faults.
 #[derive(Drop)]
 pub struct StdSink<T: Write + Drop> {
     writer: T,
@@ -38,16 +39,20 @@ impl<T: Write + Drop> Sink for StdSink<T> {
     ghost faults = { λ counted. counted.faults };
 
     ghost takes = { λ old piece taken new.
-        Appends (T.contents old.inner) (T.contents new.inner) (take taken piece) × (new.faults ≡ old.faults) };
+        Appends (T.contents old.inner) (T.contents new.inner) (take taken piece)
+        × (new.faults ≡ old.faults) };
 
-    ghost fails = { λ old piece new. Keeps (T.contents old.inner) (T.contents new.inner) × (new.faults ≡ raised_count old.faults) };
+    ghost fails = { λ old piece new.
+        Keeps (T.contents old.inner) (T.contents new.inner) × (new.faults ≡ raised_count old.faults) };
 
-    /// Writes once. An error of the writer, or a write that took nothing, raises the count, which stays once it
-    /// stands at its last value.
+    /// Writes once.
+    /// An error of the writer, or a write that took nothing, raises the count,
+    /// which stays once it stands at its last value.
     fn write(&mut self, piece: &[u8]) -> Result<usize, Failed>
         requires { 0 < length piece.now }
         ensures bound { IfOk result (λ taken. (1 ≤ taken) × (taken ≤ length piece.now)) }
-        ensures bytes { WriteAppends (T.contents self.old.inner) (T.contents self.new.inner) result piece.now }
+        ensures bytes { WriteAppends (T.contents self.old.inner)
+            (T.contents self.new.inner) result piece.now }
         ensures never_falls { self.old.faults ≤ self.new.faults }
         ensures ok { OnOk result (self.new.faults ≡ self.old.faults) }
         ensures err { OnErr result (self.new.faults ≡ raised_count self.old.faults) }

@@ -9,7 +9,8 @@ use crate::reading::Source;
 use std::io::Read;
 use std::marker::Model;
 
-/// A source over a reader of std, which tells no bytes. It is seen as the reader and the count of faults.
+/// A source over a reader of std, which tells no bytes.
+/// It is seen as the reader and the count of faults.
 #[derive(Drop)]
 pub struct StdSource<T: Read + Drop> {
     reader: T,
@@ -38,15 +39,19 @@ impl<T: Read + Drop> Source for StdSource<T> {
 
     ghost faults = { λ counted. counted.faults };
 
-    ghost gives = { λ old bytes new. Consumes (T.remaining old.inner) (T.remaining new.inner) bytes × (new.faults ≡ old.faults) };
+    ghost gives = { λ old bytes new.
+        Consumes (T.remaining old.inner) (T.remaining new.inner) bytes × (new.faults ≡ old.faults) };
 
-    ghost fails = { λ old new. Keeps (T.remaining old.inner) (T.remaining new.inner) × (new.faults ≡ raised_count old.faults) };
+    ghost fails = { λ old new.
+        Keeps (T.remaining old.inner) (T.remaining new.inner) × (new.faults ≡ raised_count old.faults) };
 
-    /// Reads once. An error of the reader raises the count, which stays once it stands at its last value.
+    /// Reads once.
+    /// An error of the reader raises the count, which stays once it stands at its last value.
     fn read(&mut self, piece: &mut [u8]) -> Result<usize, Failed>
         requires { 0 < length piece.old }
         ensures bound { ReadsAtMost result piece.new }
-        ensures bytes { ReadConsumes (T.remaining self.old.inner) (T.remaining self.new.inner) result piece.new }
+        ensures bytes { ReadConsumes (T.remaining self.old.inner)
+            (T.remaining self.new.inner) result piece.new }
         ensures never_falls { self.old.faults ≤ self.new.faults }
         ensures ok { OnOk result (self.new.faults ≡ self.old.faults) }
         ensures err { OnErr result (self.new.faults ≡ raised_count self.old.faults) }

@@ -8,7 +8,8 @@ use std::marker::Model;
 
 /// A sink into memory of a fixed room, which never fails.
 ///
-/// It takes every piece whole. Bytes for which no room is left are dropped, and from then on it tells nothing.
+/// It takes every piece whole.
+/// Bytes for which no room is left are dropped, and from then on it tells nothing.
 #[derive(Drop)]
 pub struct SureSink {
     bytes: Vec<u8>,
@@ -28,7 +29,8 @@ impl Model for SureSink {
 }
 
 impl SureSink {
-    /// A sink with room for this many bytes. It takes the memory for all of them now, and none later.
+    /// A sink with room for this many bytes.
+    /// It takes the memory for all of them now, and none later.
     pub fn new(alloc: Global, room: u32) -> Result<SureSink, NoMemory>
         ensures { IfOk result (λ sink. sink ≡ nothing_kept room) }
     {

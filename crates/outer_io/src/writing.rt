@@ -19,7 +19,8 @@ pub trait Sink {
     /// A sink that does not say lets it be anything.
     ghost takes: { Self → List ℕ → ℕ → Self → Type 0 } = { λ _ _ _ _. ⊤ };
 
-    /// What a write that was given this piece, and failed, may make of the sink. A sink that does not say lets it be anything.
+    /// What a write that was given this piece, and failed, may make of the sink.
+    /// A sink that does not say lets it be anything.
     ghost fails: { Self → List ℕ → Self → Type 0 } = { λ _ _ _. ⊤ };
 
     /// Takes at least one byte from the front of `piece`, and gives the number of bytes taken.
@@ -38,7 +39,8 @@ pub trait Sink {
 
 /// Writes all the bytes, or those up to the first write that fails.
 ///
-/// Each write is given all the bytes that are left, and one that fails is the last. With no byte there is no write.
+/// Each write is given all the bytes that are left, and one that fails is the last.
+/// With no byte there is no write.
 ///
 /// # Errors
 ///
@@ -61,7 +63,8 @@ pub fn write_all<K: Sink>(sink: &mut K, bytes: &[u8]) -> Result<(), WriteFault>
     Ok(())
 }
 
-/// Of three bytes two are taken, and then the last one; a write that is given a part alone is none of `write_all`.
+/// Of three bytes two are taken, and then the last one; a write that is given
+/// a part alone is none of `write_all`.
 pub fn writes_are_handed()
     ensures { SmallWritings }
 {}

@@ -17,7 +17,8 @@ use std::thread;
 use std::thread::Threads;
 use turn_workers::MeetGate;
 
-/// Each turn waits in the gate, once it has claimed its zone, until both callers have come to that turn.
+/// Each turn waits in the gate, once it has claimed its zone,
+/// until both callers have come to that turn.
 /// One after another they would not meet.
 fn two_meet<R: Abort + Threads + Wait + Sync>(
     rt: &R,
@@ -39,7 +40,9 @@ fn two_callers_meet_in_each_turn(rt: HostRuntime) -> Result<(), Fail> {
     Ok(())
 }
 
-/// Counts its calls. The first call for caller 0 and the first one for caller 1 wait for each other, for many looks at most.
+/// Counts its calls.
+/// The first call for caller 0 and the first one for caller 1 wait for each other,
+/// for many looks at most.
 #[derive(Drop)]
 struct Pair {
     calls: AtomicU64,

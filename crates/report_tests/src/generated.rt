@@ -1,6 +1,7 @@
-//! Documents that are drawn from a seed: small shapes, of which many have walls, with programs that move, write and fail.
-//! The text of one list is the same by each word that makes its turns. Of several lists each report passes the plain checker, and its text
-//! agrees under `replay`.
+//! Documents that are drawn from a seed: small shapes, of which many have walls,
+//! with programs that move, write and fail.
+//! The text of one list is the same by each word that makes its turns.
+//! Of several lists each report passes the plain checker, and its text agrees under `replay`.
 ghost use Rattle.std.specs.Prelude.{◌≡◌, ◌≤◌, ◌<◌, IfOk};
 
 use crate::meetings::ON_THREADS;
@@ -17,7 +18,8 @@ use std::sync::Wait;
 use std::test::Fail;
 use std::thread::Threads;
 
-/// A program, without its first and its last line, and what may stand at the end of an amoebot's line.
+/// A program, without its first and its last line, and what may stand
+/// at the end of an amoebot's line.
 type Program = (&'static str, [&'static str; 6]);
 
 static PROGRAMS: [Program; 6] = [
@@ -101,7 +103,9 @@ fn push_bot(
     text.push_str(&bot)
 }
 
-/// One to eight amoebots, each third node has one. Where none was drawn above the last row, its first node has one. How many there are.
+/// One to eight amoebots, each third node has one.
+/// Where none was drawn above the last row, its first node has one.
+/// How many there are.
 fn push_bots(
     alloc: Global,
     text: &mut String,
@@ -125,7 +129,8 @@ fn push_bots(
     Ok(bots)
 }
 
-/// An area of four by four to eight by eight nodes, with walls or without. How many amoebots there are.
+/// An area of four by four to eight by eight nodes, with walls or without.
+/// How many amoebots there are.
 fn push_shape(
     alloc: Global,
     text: &mut String,

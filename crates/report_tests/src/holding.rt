@@ -1,4 +1,5 @@
-//! A gate that holds one caller, with its zone claimed and nothing committed, while the others make all their turns.
+//! A gate that holds one caller, with its zone claimed and nothing committed,
+//! while the others make all their turns.
 
 use crate::meetings::{FOUR_APART, ON_THREADS};
 use crate::reports::right_report;

@@ -1,4 +1,5 @@
-//! Tests of what workers on threads leave, by `run` and by `tickets`: reports, texts, and the calls of gates.
+//! Tests of what workers on threads leave, by `run` and by `tickets`: reports, texts,
+//! and the calls of gates.
 #![tactic(auto)]
 
 #[cfg(test)]

@@ -16,7 +16,8 @@ pub const MEETINGS: [&str; 4] = [
     shape\narea 0 0 8 8\n\
     bot 2 3 2 3 0 + 1\nbot 3 3 3 3 0 + 0\nbot 4 3 4 3 0 + 0\nbot 4 2 4 2 0 + 0\n\
     end\nlists\nturns 6\nlist 3 2 1\nlist 1 2 3\nend\n",
-    // Two amoebots want one node, one has the border before it, and one has that one before it. The journal has old values.
+    // Two amoebots want one node, one has the border before it, and one has that one before it.
+    // The journal has old values.
     "amoebot 3\nprogram\naction out when contracted move expand head 0\n\
     action back when expanded move contract tail\nend\n\
     shape\narea 0 0 8 8\nbot 2 3 2 3 0 +\nbot 4 3 4 3 3 +\nbot 7 4 7 4 0 +\nbot 6 4 6 4 0 +\n\
@@ -40,7 +41,8 @@ pub const FOUR_APART: &str = "{OUT_AND_BACK}shape\narea 0 0 32 8\n\
     bot 3 3 3 3 0 +\nbot 11 3 11 3 0 +\nbot 19 3 19 3 0 +\nbot 27 3 27 3 0 +\n\
     end\nlists\nturns 64\nlist 0\nlist 1\nlist 2\nlist 3\nend\n";
 
-/// Sixteen amoebots that are eight columns or rows apart. In each turn each of them goes out or comes back.
+/// Sixteen amoebots that are eight columns or rows apart.
+/// In each turn each of them goes out or comes back.
 pub const SIXTEEN_APART: &str = "{OUT_AND_BACK}shape\narea 0 0 40 40\n\
     bot 4 4 4 4 0 +\nbot 12 4 12 4 0 +\nbot 20 4 20 4 0 +\nbot 28 4 28 4 0 +\n\
     bot 4 12 4 12 0 +\nbot 12 12 12 12 0 +\nbot 20 12 20 12 0 +\nbot 28 12 28 12 0 +\n\
@@ -49,7 +51,8 @@ pub const SIXTEEN_APART: &str = "{OUT_AND_BACK}shape\narea 0 0 40 40\n\
     end\nlists\nturns 16\nlist 0\nlist 1\nlist 2\nlist 3\nlist 4\nlist 5\nlist 6\nlist 7\n\
     list 8\nlist 9\nlist 10\nlist 11\nlist 12\nlist 13\nlist 14\nlist 15\nend\n";
 
-/// Sixteen amoebots in a square of four by four that mark themselves, in this order in the list of each of sixteen callers.
+/// Sixteen amoebots in a square of four by four that mark themselves,
+/// in this order in the list of each of sixteen callers.
 pub const SIXTEEN_FOR_SIXTEEN: &str = "{MARK}shape\narea 0 0 8 8\n\
     bot 2 2 2 2 0 + 0\nbot 3 2 3 2 0 + 0\nbot 4 2 4 2 0 + 0\nbot 5 2 5 2 0 + 0\n\
     bot 2 3 2 3 0 + 0\nbot 3 3 3 3 0 + 0\nbot 4 3 4 3 0 + 0\nbot 5 3 5 3 0 + 0\n\

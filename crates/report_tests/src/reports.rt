@@ -36,7 +36,8 @@ fn is_report_of(alloc: Global, document: &str, report: &Report) -> Result<bool, 
     is_report(alloc, &runner, &world, &lists, report)
 }
 
-/// Runs the document by a word, with this gate. The report passes the checker, and the text behind the document agrees.
+/// Runs the document by a word, with this gate.
+/// The report passes the checker, and the text behind the document agrees.
 pub(crate) fn right_report<R: Abort + Threads + Wait + Sync, G: Gate>(
     rt: &R,
     alloc: Global,
@@ -50,7 +51,8 @@ pub(crate) fn right_report<R: Abort + Threads + Wait + Sync, G: Gate>(
     Ok(report)
 }
 
-/// The document leaves a right report by each word. Every fourth time the gate lets other threads go first.
+/// The document leaves a right report by each word.
+/// Every fourth time the gate lets other threads go first.
 pub(crate) fn check_reports<R: Abort + Threads + Wait + Sync>(
     rt: &R,
     alloc: Global,
@@ -116,7 +118,8 @@ fn sixteen_callers_leave_right_reports(rt: HostRuntime) -> Result<(), Fail> {
     Ok(())
 }
 
-/// The document of 100 amoebots in a row, of which the first is the seed of a hexagon, in four lists of every fourth one.
+/// The document of 100 amoebots in a row, of which the first is the seed of a hexagon,
+/// in four lists of every fourth one.
 fn row_of_100(alloc: Global) -> Result<String, AllocError> {
     let mut text = String::from_str(alloc, "amoebot 1\n")?;
     text.push_str(HEXAGON)?;

@@ -1,4 +1,5 @@
--- What follows from the definitions alone. Old values that are those found determine what stands before a step.
+-- What follows from the definitions alone.
+-- Old values that are those found determine what stands before a step.
 use Rattle.std.specs.Prelude.{◌≡◌, ◌⊎◌, ◌≤◌, ℕ, List, length, take}
 use Rattle.std.specs.declared.result.Result.{Result}
 use Rattle.std.specs.declared.result.Result.TheVariants.{Ok}
@@ -63,7 +64,8 @@ BackOrLastNoStep =
     → ((world : Config) × IsBack f last entries place world) ⊎ ((k : ℕ) × IsLastNoStep f last entries place k)
 
 -- Rewinding is the inverse of the run.
--- Where entries are a run, the world that so many of them lead to is the one at that place, seen from the last one.
+-- Where entries are a run, the world that so many of them lead to is the one at that place,
+-- seen from the last one.
 abbrev pub RunsLeadBack : Type 0
 RunsLeadBack =
     (f : Shown → Verdict) (first last world : Config) (entries : List Entry) (place : ℕ)
@@ -101,9 +103,11 @@ UnwoundIsSome =
 -- a run changes neither the area nor the walls nor the number of amoebots
 abbrev pub RunsKeepFrame : Type 0
 RunsKeepFrame =
-    (f : Shown → Verdict) (first last : Config) (entries : List Entry) → Run f first entries last → HasSameFrame first last
+    (f : Shown → Verdict) (first last : Config) (entries : List Entry)
+    → Run f first entries last → HasSameFrame first last
 
--- so for the first and the last world of a run, to go back to a place comes to the world that so many entries lead to
+-- so for the first and the last world of a run, to go back to a place comes
+-- to the world that so many entries lead to
 abbrev pub UnwindingUndoesRuns : Type 0
 UnwindingUndoesRuns =
     (f : Shown → Verdict) (first last world : Config) (entries : List Entry) (place : ℕ)

@@ -1,5 +1,5 @@
--- What stands before entries, seen from what they lead to. Steps and runs are the paper's; to go back by old values is this
--- project's profile.
+-- What stands before entries, seen from what they lead to.
+-- Steps and runs are the paper's; to go back by old values is this project's profile.
 use Rattle.std.specs.Prelude.{◌≡◌, ◌≤◌, ◌+◌, ℕ, List, drop, length, slice_get}
 use Rattle.std.specs.declared.option.Option.TheVariants.{Some}
 use Rattle.amoebot_state.specs.declared.verdict.Entry.{Entry}
@@ -17,16 +17,19 @@ pub record IsStepBack (f : Shown → Verdict) (new : Config) (e : Entry) (old : 
 abbrev pub IsNoStepBack : (Shown → Verdict) → Config → Entry → Type 0
 IsNoStepBack f new e = (old : Config) → IsValid old → ¬ Step f old e new
 
--- the world at a place of entries, seen from the last one: it is valid, and the entries from the place on are a run from it to the
--- last one
-pub record IsBack (f : Shown → Verdict) (last : Config) (entries : List Entry) (place : ℕ) (world : Config) : Type 0 where
+-- the world at a place of entries, seen from the last one: it is valid,
+-- and the entries from the place on are a run from it to the last one
+pub record IsBack (f : Shown → Verdict) (last : Config)
+    (entries : List Entry) (place : ℕ) (world : Config) : Type 0 where
   pub within : place ≤ length entries
   pub valid : IsValid world
   pub run : Run f world (drop place entries) last
 
--- the greatest place, not below one, from which there is no step: an entry stands there, the world behind it is the one that is
--- seen from the last one, and no valid world has a step of the entry to that world
-pub record IsLastNoStep (f : Shown → Verdict) (last : Config) (entries : List Entry) (place k : ℕ) : Type 0 where
+-- the greatest place, not below one, from which there is no step: an entry stands there,
+-- the world behind it is the one that is seen from the last one,
+-- and no valid world has a step of the entry to that world
+pub record IsLastNoStep (f : Shown → Verdict) (last : Config)
+    (entries : List Entry) (place k : ℕ) : Type 0 where
   pub above : place ≤ k
   pub entry : Entry
   pub there : slice_get entries k ≡ Some entry

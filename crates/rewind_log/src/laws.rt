@@ -32,8 +32,8 @@ pub fn back_or_last_no_step()
     ensures { BackOrLastNoStep }
 {}
 
-/// Rewinding is the inverse of the run: where entries are a run, the world that so many of them lead to is the one at that place,
-/// seen from the last one.
+/// Rewinding is the inverse of the run: where entries are a run,
+/// the world that so many of them lead to is the one at that place, seen from the last one.
 pub fn runs_lead_back()
     ensures { RunsLeadBack }
 {}
@@ -58,7 +58,8 @@ pub fn runs_keep_frame()
     ensures { RunsKeepFrame }
 {}
 
-/// So for the first and the last world of a run, to go back to a place comes to the world that so many entries lead to.
+/// So for the first and the last world of a run, to go back to a place comes
+/// to the world that so many entries lead to.
 pub fn unwinding_undoes_runs()
     ensures { UnwindingUndoesRuns }
 {}

@@ -8,8 +8,11 @@ ghost use Rattle.rewind_log.specs.Unwinding.{IsUnwound};
 use amoebot_state::{Decider, Entry, World, old_values_are_found};
 use serial_model::{Differs, decides_entry};
 
-/// Goes back over an entry, whose amoebot is one of the world's. True exactly where some valid world has a step of the entry to this
-/// one; the world is then that one. False leaves it. It takes no memory.
+/// Goes back over an entry, whose amoebot is one of the world's.
+/// True exactly where some valid world has a step of the entry to this one;
+/// the world is then that one.
+/// False leaves it.
+/// It takes no memory.
 pub fn back<D: Decider>(decider: &D, world: &mut World, entry: &Entry) -> bool
     requires { entry.now.bot < length world.old.bots }
     ensures step { OnTrue result (IsStepBack (D.verdict decider.now) world.old entry.now world.new) }
@@ -34,8 +37,10 @@ pub fn back<D: Decider>(decider: &D, world: &mut World, entry: &Entry) -> bool
     false
 }
 
-/// The world at a place of the entries, whose amoebots are the world's, seen from the last world. Differs gives the greatest place,
-/// not below that one, from which there is no step; the world is dropped then. It takes no memory.
+/// The world at a place of the entries, whose amoebots are the world's, seen from the last world.
+/// Differs gives the greatest place, not below that one, from which there is no step;
+/// the world is dropped then.
+/// It takes no memory.
 pub fn rewind<D: Decider>(
     decider: &D,
     last: World,
@@ -46,7 +51,8 @@ pub fn rewind<D: Decider>(
     requires within { place ≤ length entries.now }
     requires known { All (λ e. e.bot < length last.bots) entries.now }
     ensures back { IfOk result (λ world. IsBack (D.verdict decider.now) last entries.now place world) }
-    ensures differs { IfErr result (λ e. IsLastNoStep (D.verdict decider.now) last entries.now place e.place) }
+    ensures differs { IfErr result (λ e.
+        IsLastNoStep (D.verdict decider.now) last entries.now place e.place) }
 {
     last.keeps();
     let mut world = last;
@@ -60,8 +66,9 @@ pub fn rewind<D: Decider>(
     Ok(world)
 }
 
-/// The same where the entries' amoebots are those of a first world: Differs gives the number of entries where the last world has
-/// another area, other walls or another number of amoebots than the first one.
+/// The same where the entries' amoebots are those of a first world:
+/// Differs gives the number of entries where the last world has another area,
+/// other walls or another number of amoebots than the first one.
 pub fn unwind<D: Decider>(
     decider: &D,
     start: &World,
@@ -72,8 +79,10 @@ pub fn unwind<D: Decider>(
     requires few { AreCountable entries.now }
     requires within { place ≤ length entries.now }
     requires known { All (λ e. e.bot < length start.now.bots) entries.now }
-    ensures back { IfOk result (λ world. IsUnwound (D.verdict decider.now) start.now last entries.now place (Ok world)) }
-    ensures differs { IfErr result (λ e. IsUnwound (D.verdict decider.now) start.now last entries.now place (Err e.place)) }
+    ensures back { IfOk result (λ world.
+        IsUnwound (D.verdict decider.now) start.now last entries.now place (Ok world)) }
+    ensures differs { IfErr result (λ e.
+        IsUnwound (D.verdict decider.now) start.now last entries.now place (Err e.place)) }
 {
     if !last.has_area_and_walls_of(start) || last.bots() != start.bots() {
         return Err(Differs {

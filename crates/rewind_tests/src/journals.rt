@@ -1,4 +1,5 @@
-//! Journals of shipped programs: from the last world back to each place, where the world is the one that `Serial` has there.
+//! Journals of shipped programs: from the last world back to each place,
+//! where the world is the one that `Serial` has there.
 ghost use Rattle.std.specs.Prelude.{IfOk};
 ghost use Rattle.std.specs.List.{All};
 ghost use Rattle.amoebot_state.specs.Refusals.{IsBotInRange};
@@ -13,7 +14,8 @@ use std::alloc::Global;
 use std::test::Fail;
 use tri_lattice::Area;
 
-/// A contracted amoebot: its node, and its first three variables, which `hexagon` calls `state`, `parent` and `aim`.
+/// A contracted amoebot: its node, and its first three variables, which `hexagon` calls `state`,
+/// `parent` and `aim`.
 type Place = (u8, u8, u8, u8, u8);
 
 /// The first is the seed.
@@ -169,8 +171,8 @@ fn each_place_of_a_hexagon_is_reached(rt: HostRuntime) -> Result<(), Fail> {
     Ok(())
 }
 
-/// Nine amoebots go to the border in three rows of three, each by an expansion and a contraction a node: over three, four and five
-/// nodes.
+/// Nine amoebots go to the border in three rows of three,
+/// each by an expansion and a contraction a node: over three, four and five nodes.
 #[test]
 fn each_place_of_a_line_is_reached(rt: HostRuntime) -> Result<(), Fail> {
     let runner = Runner::new(Shipped::Line.program(rt.alloc())?);

@@ -17,8 +17,8 @@ const AHEAD: Port = Port {
 /// Expands into the node ahead.
 const OUT: Expander = Expander { port: AHEAD };
 
-/// Old values of an expansion: who was on the node ahead; the amoebot's head, its tail, its rotation, its chirality, and its value of
-/// variable 0.
+/// Old values of an expansion: who was on the node ahead; the amoebot's head, its tail,
+/// its rotation, its chirality, and its value of variable 0.
 type Before = (Option<u16>, (u8, u8), (u8, u8), u8, Chir, u8);
 
 /// Those of amoebot 1, which stood at (2,3) and looked at (3,3).
@@ -98,8 +98,8 @@ fn bot_before(before: Before) -> Bot {
     }
 }
 
-/// Three amoebots expand one after another, and the old values of amoebot 1 are these. Where one cannot go back from the last world
-/// to a place.
+/// Three amoebots expand one after another, and the old values of amoebot 1 are these.
+/// Where one cannot go back from the last world to a place.
 fn differs_at(alloc: Global, before: Before, place: u32) -> Result<Option<u32>, Fail>
     requires { place ≤ 3 }
 {

@@ -20,8 +20,8 @@ chain v = node_eq left_node v || node_eq middle v || node_eq right_node v
 abbrev pub end_pair : Node → Bool
 end_pair v = node_eq left_node v || node_eq right_node v
 
--- the chain is connected, the pair is the chain without its middle, whose ring is not one arc, and the
--- pair is not connected
+-- the chain is connected, the pair is the chain without its middle, whose ring is not one arc,
+-- and the pair is not connected
 pub record GapSplits : Type 0 where
   pub connected : IsConnected chain
   pub taken : TakesOut chain end_pair middle

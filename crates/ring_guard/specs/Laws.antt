@@ -7,15 +7,18 @@ use Rattle.ring_guard.specs.Rings.{IsOneArc, IsRow, ring_in, HasEmptyRing}
 
 -- taking out a node whose ring is one arc leaves a connected set connected
 abbrev pub TakingKeeps : Type 0
-TakingKeeps = (S T : Node → Bool) (v : Node) → IsConnected S → IsOneArc (ring_in S v) → TakesOut S T v → IsConnected T
+TakingKeeps = (S T : Node → Bool) (v : Node) → IsConnected S
+    → IsOneArc (ring_in S v) → TakesOut S T v → IsConnected T
 
 -- and leaves a node
 abbrev pub TakingLeaves : Type 0
-TakingLeaves = (S T : Node → Bool) (v : Node) → IsOneArc (ring_in S v) → TakesOut S T v → (a : Node) × IsTrue (T a)
+TakingLeaves = (S T : Node → Bool) (v : Node) → IsOneArc (ring_in S v)
+    → TakesOut S T v → (a : Node) × IsTrue (T a)
 
 -- a node of a connected set with no neighbour in it is the whole set
 abbrev pub AloneIsAll : Type 0
-AloneIsAll = (S : Node → Bool) (v : Node) → IsConnected S → IsTrue (S v) → HasEmptyRing S v → (a : Node) → IsTrue (S a) → a ≡ v
+AloneIsAll = (S : Node → Bool) (v : Node) → IsConnected S → IsTrue (S v)
+    → HasEmptyRing S v → (a : Node) → IsTrue (S a) → a ≡ v
 
 -- a ring is one arc exactly where its true entries stand in a row round the ring, and there is one
 abbrev pub ArcsAreRows : Type 0
@@ -23,9 +26,11 @@ ArcsAreRows = (xs : List Bool) → length xs ≡ 6 → IsOneArc xs ↔ IsRow xs
 
 -- the ring whose entry i is bit i of a number below 64
 abbrev pub ring_of : ℕ → List Bool
-ring_of n = (n % 2 == 1) ∷ (n / 2 % 2 == 1) ∷ (n / 4 % 2 == 1) ∷ (n / 8 % 2 == 1) ∷ (n / 16 % 2 == 1) ∷ (n / 32 % 2 == 1) ∷ []
+ring_of n = (n % 2 == 1) ∷ (n / 2 % 2 == 1) ∷ (n / 4 % 2 == 1)
+    ∷ (n / 8 % 2 == 1) ∷ (n / 16 % 2 == 1) ∷ (n / 32 % 2 == 1) ∷ []
 
--- the rings of one arc by their numbers: one entry, two next to each other, three, four, five, all six
+-- the rings of one arc by their numbers: one entry, two next to each other, three, four, five,
+-- all six
 abbrev pub arcs : List ℕ
 arcs = 1 ∷ 2 ∷ 4 ∷ 8 ∷ 16 ∷ 32
     ∷ 3 ∷ 6 ∷ 12 ∷ 24 ∷ 48 ∷ 33

@@ -11,8 +11,10 @@ ghost use Rattle.ring_guard.specs.Rings.{IsOneArc};
 
 /// Whether the true entries of a ring form one arc.
 ///
-/// Entry `i` stands for the neighbour in direction `i`. True exactly where at least one entry is true
-/// and at most one `i` has entry `i` true and entry `(i + 1) mod 6` false. All six true is one arc.
+/// Entry `i` stands for the neighbour in direction `i`.
+/// True exactly where at least one entry is true and at most one `i` has entry `i` true
+/// and entry `(i + 1) mod 6` false.
+/// All six true is one arc.
 pub fn one_arc(ring: [bool; 6]) -> bool
     ensures { IsTrue result ↔ IsOneArc ring }
 {

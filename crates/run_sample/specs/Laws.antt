@@ -33,7 +33,8 @@ SampleIsSome = (seed : ℕ) → (s : Sample) × IsSample seed s
 
 -- the first two amoebots of seed one are turned by 0 and by 2
 abbrev pub FirstOfSeedOne : Type 0
-FirstOfSeedOne = Placed 1 (bot_on 0 (square_node 0) 0 ∷ bot_on 1 (square_node 1) 2 ∷ []) (drawn (drawn (seeded 1)))
+FirstOfSeedOne =
+    Placed 1 (bot_on 0 (square_node 0) 0 ∷ bot_on 1 (square_node 1) 2 ∷ []) (drawn (drawn (seeded 1)))
 
 -- A sample has 150 amoebots in a valid world, whose shape is connected and not far from the square.
 -- Its lists are such as callers may have, and their amoebots are among those.

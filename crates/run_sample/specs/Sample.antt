@@ -1,4 +1,5 @@
--- The sample of a seed: 150 contracted amoebots, of which 100 fill a square and 50 come beside them one by one.
+-- The sample of a seed: 150 contracted amoebots, of which 100 fill a square
+-- and 50 come beside them one by one.
 -- All of it is this project's profile; the generator is PCG32.
 use Rattle.std.specs.Prelude.{◌≡◌, ℕ, zero, suc, pos, ◌+◌, ◌/◌, ◌%◌, ◌<◌, ◌≤◌, ◌≤ℤ◌, List, [], ◌∷◌, ◌++◌, Bool, false, IsTrue, length, slice_index_or}
 use Rattle.std.specs.List.{list_any}
@@ -64,10 +65,13 @@ square_node id = record { x = pos (59 + id % 10); y = pos (59 + id / 10) }
 abbrev pub node_of : List Bot → ℕ → Node
 node_of bots i = (slice_index_or bots i blank).head
 
--- the amoebot that comes next, with the generator after it. The first 100 fill the square, and each draws its rotation. Each later
--- one draws an amoebot and then a direction, comes on the first empty node that is met from there, and then draws its rotation
+-- the amoebot that comes next, with the generator after it.
+-- The first 100 fill the square, and each draws its rotation.
+-- Each later one draws an amoebot and then a direction,
+-- comes on the first empty node that is met from there, and then draws its rotation
 pub data IsNextBot (bots : List Bot) (g : Lcg) : Bot → Lcg → Type 0 where
-  in_square : length bots < square_bots → IsNextBot bots g (bot_on (length bots) (square_node (length bots)) (draw g 6)) (drawn g)
+  in_square : length bots < square_bots
+      → IsNextBot bots g (bot_on (length bots) (square_node (length bots)) (draw g 6)) (drawn g)
   beside : {v : Node}
       → square_bots ≤ length bots
       → IsFirstEmpty bots (node_of bots (draw g (length bots))) (draw (drawn g) 6) v
@@ -76,7 +80,8 @@ pub data IsNextBot (bots : List Bot) (g : Lcg) : Bot → Lcg → Type 0 where
 -- amoebots that came one by one, with the generator after them
 pub data Placed (seed : ℕ) : List Bot → Lcg → Type 0 where
   none : Placed seed [] (seeded seed)
-  more : {bots : List Bot} {b : Bot} {g h : Lcg} → Placed seed bots g → IsNextBot bots g b h → Placed seed (bots ++ b ∷ []) h
+  more : {bots : List Bot} {b : Bot} {g h : Lcg} → Placed seed bots g
+      → IsNextBot bots g b h → Placed seed (bots ++ b ∷ []) h
 
 -- the amoebots of a seed's sample
 pub record AreSample (seed : ℕ) (bots : List Bot) : Type 0 where

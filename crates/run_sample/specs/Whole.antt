@@ -7,7 +7,8 @@ use Rattle.run_sample.specs.declared.whole.Sample.{Sample}
 use Rattle.run_sample.specs.Sample.{AreSample, sample_frame}
 use Rattle.run_sample.specs.Callers.{sample_lists}
 
--- the sample of a seed: the program `hexagon` with its guard on, a world of the seed's amoebots, and the lists
+-- the sample of a seed: the program `hexagon` with its guard on, a world of the seed's amoebots,
+-- and the lists
 pub record IsSample (seed : ℕ) (s : Sample) : Type 0 where
   pub program : s.checked ≡ record trees.hexagon { guard = true }
   pub bots : List Bot

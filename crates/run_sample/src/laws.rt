@@ -15,7 +15,8 @@ pub fn sample_is_some()
     ensures { SampleIsSome }
 {}
 
-/// A sample has 150 amoebots, which make a connected shape with x and y of 9 to 118, and its lists are of them.
+/// A sample has 150 amoebots, which make a connected shape with x and y of 9 to 118,
+/// and its lists are of them.
 pub fn sample_is_fit()
     ensures { SampleIsFit }
 {}

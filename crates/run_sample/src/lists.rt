@@ -7,7 +7,8 @@ use amoebot_state::NoMemory;
 use claim_core::Lists;
 use std::alloc::Global;
 
-/// The lists of four callers, 4,000 turns each: list `c` has the ids that are `c` modulo 4, in rising order.
+/// The lists of four callers, 4,000 turns each: list `c` has the ids that are `c` modulo 4,
+/// in rising order.
 pub(crate) fn lists(alloc: Global) -> Result<Lists, NoMemory>
     ensures { IfOk result (λ lists. lists ≡ sample_lists) }
 {

@@ -23,8 +23,9 @@ pub struct Sample {
     pub lists: Lists,
 }
 
-/// The sample of a number: the program `hexagon` with its guard on, 150 contracted amoebots, which make a connected shape, and
-/// the lists of four callers, 4,000 turns each. The same number gives the same sample; NoMemory may come in place of it.
+/// The sample of a number: the program `hexagon` with its guard on, 150 contracted amoebots,
+/// which make a connected shape, and the lists of four callers, 4,000 turns each.
+/// The same number gives the same sample; NoMemory may come in place of it.
 pub fn make_sample(alloc: Global, seed: u32) -> Result<Sample, NoMemory>
     ensures sample { IfOk result (IsSample seed) }
     ensures connected { IfOk result (λ s. IsConnected (occupied s.world)) }

@@ -16,7 +16,8 @@ FailsAsLists text line kind = Says (IsLists 3) text (Err (on_line line kind))
 
 abbrev pub sixteen_lists : List ℕ
 sixteen_lists =
-    codes "list 0 list 0 list 0 list 0 list 0 list 0 list 0 list 0 list 0 list 0 list 0 list 0 list 0 list 0 list 0 list 0 "
+    codes "list 0 list 0 list 0 list 0 list 0 list 0 list 0 list 0 "
+    ++ codes "list 0 list 0 list 0 list 0 list 0 list 0 list 0 list 0 "
 
 abbrev pub alone : List ℕ
 alone = 0 ∷ []
@@ -34,7 +35,8 @@ pub record ListsAreRead : Type 0 where
   pub turns_of_fifteen : Says (ListsFrom 3 4369 14) (codes "list 0") (Ok (alone ∷ []))
   pub turns_of_sixteen : Says (ListsFrom 3 4096 15) (codes "list 0") (Ok (alone ∷ []))
   pub lists_16 : YieldsLists (codes "lists turns 0 " ++ sixteen_lists ++ codes "end") 0
-      (alone ∷ alone ∷ alone ∷ alone ∷ alone ∷ alone ∷ alone ∷ alone ∷ alone ∷ alone ∷ alone ∷ alone ∷ alone ∷ alone
+      (alone ∷ alone ∷ alone ∷ alone ∷ alone ∷ alone ∷ alone
+      ∷ alone ∷ alone ∷ alone ∷ alone ∷ alone ∷ alone ∷ alone
       ∷ alone ∷ alone ∷ [])
   -- the last id that a list may have
   pub last_id : Says (IdsFrom 3 4095) (codes "2") (Ok (2 ∷ []))

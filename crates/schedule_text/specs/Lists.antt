@@ -1,8 +1,8 @@
 -- The section `lists`: the turns of each caller, and the callers' lists.
 --   lists := "lists" "turns" NUMBER { list } "end"
 --   list  := "list" NUMBER { NUMBER }
--- These are TooMany: turns above 65,536, the 17th `list`, the `list` with which callers times turns pass 65,536,
--- and the 4,097th id of a list.
+-- These are TooMany: turns above 65,536, the 17th `list`,
+-- the `list` with which callers times turns pass 65,536, and the 4,097th id of a list.
 -- That comes before whatever else is wrong with an id. An id that is no amoebot's is a BadId.
 use Rattle.std.specs.Prelude.{ℕ, suc, ◌*◌, Bool, ◌&&◌, nat_le, if◌then◌else◌, List, ◌∷◌, Option, Some, None, codes}
 use Rattle.text_tokens.specs.declared.refusal.RefusalKind.{RefusalKind}
@@ -65,4 +65,5 @@ IsTurnCount = Then (IsWord (codes "turns")) (λ line. IsNumeral (too_large most_
 abbrev pub IsLists : ℕ → Lang CallerLists
 IsLists bots =
     Then (IsWord (codes "lists"))
-    (λ line. Then IsTurnCount (λ turns. Closed (Made (ListsFrom bots turns 0) (λ ids. lists_of turns ids)) is_end))
+    (λ line. Then IsTurnCount (λ turns.
+    Closed (Made (ListsFrom bots turns 0) (λ ids. lists_of turns ids)) is_end))

@@ -40,7 +40,8 @@ unfoldable pub some_turns : Reader ℕ
 some_turns = a_word (codes "turns") >>= λ line. numeral (too_large most_turns TooMany)
 
 unfoldable pub the_lists : ℕ → Reader CallerLists
-the_lists bots = a_word (codes "lists") >>= λ line. some_turns >>= λ turns. closed (all_lists bots turns) is_end
+the_lists bots =
+    a_word (codes "lists") >>= λ line. some_turns >>= λ turns. closed (all_lists bots turns) is_end
 
 -- ---- the schedule
 
@@ -57,7 +58,8 @@ unfoldable pub any_times : ℕ → Reader ℕ
 any_times before = optional is_times 1 (its_times before)
 
 unfoldable pub a_stretch : ℕ → ℕ → Reader Stretch
-a_stretch callers before = a_caller callers before >>= λ caller. any_times before >>= λ times. pure (stretch_of caller times)
+a_stretch callers before =
+    a_caller callers before >>= λ caller. any_times before >>= λ times. pure (stretch_of caller times)
 
 unfoldable pub stretches_from : ℕ → ℕ → Reader (List Stretch)
 stretches_from callers before = repeated is_number (a_stretch callers) more_steps before

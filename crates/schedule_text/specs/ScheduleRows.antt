@@ -24,7 +24,8 @@ FailsBehind before text line kind = Says (StretchesFrom 2 before) text (Err (on_
 pub record SchedulesAreRead : Type 0 where
   -- ---- texts
   pub no_step : YieldsSteps (codes "schedule end") []
-  pub steps : YieldsSteps (codes "schedule\n0 times 3\n1\n0 times 1 01 times 002\nend\n") (0 ∷ 0 ∷ 0 ∷ 1 ∷ 0 ∷ 1 ∷ 1 ∷ [])
+  pub steps : YieldsSteps (codes "schedule\n0 times 3\n1\n0 times 1 01 times 002\nend\n")
+      (0 ∷ 0 ∷ 0 ∷ 1 ∷ 0 ∷ 1 ∷ 1 ∷ [])
   -- as many steps as there may be: at once, by a caller, and by `times`
   pub all_at_once : YieldsBehind 0 (codes "0 times 1000000") (stretch_of 0 1000000 ∷ [])
   pub all_with_one : YieldsBehind 0 (codes "0 times 999999 1") (stretch_of 0 999999 ∷ stretch_of 1 1 ∷ [])

@@ -1,6 +1,7 @@
 -- The section `schedule`: which caller makes each step.
 --   schedule := "schedule" { stretch } "end"
---   stretch  := NUMBER [ "times" NUMBER ]      a caller, and how many steps it makes in a row; one, where that is left out
+--   stretch  := NUMBER [ "times" NUMBER ]      a caller, and how many steps it makes in a row;
+--                                              one, where that is left out
 -- A number with which the steps pass 1,000,000 is TooMany.
 -- It may be a caller's, which counts as one step, or the one behind `times`.
 -- A caller that has no list is a BadId, and `times` 0 is a BadRange.
@@ -59,4 +60,5 @@ steps_of = flat_map steps_in
 
 -- the caller of each step, one of so many
 abbrev pub IsSchedule : ℕ → Lang (List ℕ)
-IsSchedule callers = Then (IsWord (codes "schedule")) (λ line. Closed (Made (StretchesFrom callers 0) steps_of) is_end)
+IsSchedule callers =
+    Then (IsWord (codes "schedule")) (λ line. Closed (Made (StretchesFrom callers 0) steps_of) is_end)

@@ -6,8 +6,8 @@ ghost use Rattle.schedule_text.specs.Readers as reader;
 
 use text_tokens::{ReadRefusal, RefusalKind, TokenKind, Tokens, refused};
 
-/// A number below `known`, where fewer than `most` stand before it. One too many is `TooMany`, and any other number a
-/// `BadId`.
+/// A number below `known`, where fewer than `most` stand before it.
+/// One too many is `TooMany`, and any other number a `BadId`.
 pub(crate) fn read_known(
     tokens: &mut Tokens<'_>,
     most: u32,

@@ -34,7 +34,8 @@ fn read_id(tokens: &mut Tokens<'_>, bots: u16, before: u32) -> Result<u16, ReadR
 
 /// One more id, if a number comes.
 fn more_id(tokens: &mut Tokens<'_>, bots: u16, before: u32) -> Result<Option<u16>, ReadRefusal>
-    ensures reads { Gives (λ o. o) (another is_number (reader.an_id bots before)) tokens.old result tokens.new }
+    ensures reads { Gives (λ o. o)
+        (another is_number (reader.an_id bots before)) tokens.old result tokens.new }
     ensures room { IfOk result (λ o. IfSome o (λ _. before < most_ids)) }
     ensures there { IfOk result (λ o. IfSome o (λ n. n < bots)) }
 {

@@ -33,9 +33,10 @@ with_met a marks order v = if node_mark a marks v then order else order ++ v ∷
 abbrev pub met : List Node → ℕ → Node
 met order j = slice_index_or order j (record { x = pos 0; y = pos 0 })
 
--- the nodes to which a path in the set leads from the first one are marked, as far as the neighbours of the first `done` nodes
--- tell; what is marked was met
-pub record IsSearch (S : Node → Bool) (a : Extent) (marks : List Bool) (order : List Node) (done : ℕ) : Type 0 where
+-- the nodes to which a path in the set leads from the first one are marked,
+-- as far as the neighbours of the first `done` nodes tell; what is marked was met
+pub record IsSearch (S : Node → Bool) (a : Extent)
+    (marks : List Bool) (order : List Node) (done : ℕ) : Type 0 where
   pub size : length marks ≡ a.w * a.h
   pub begun : 0 < length order
   pub reached : (v : Node) → IsTrue (node_mark a marks v) → Joined S (met order 0) v

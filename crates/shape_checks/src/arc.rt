@@ -3,7 +3,8 @@ ghost use Rattle.shape_checks.specs.Hexagons.{IsArc};
 ghost use Rattle.shape_checks.specs.Arcs.{circle_entry, IsStart};
 ghost use Rattle.shape_checks.specs.Candidates.{most_places};
 
-/// Whether the true places of a circle are those of an arc: none, all, or some that follow one another.
+/// Whether the true places of a circle are those of an arc: none, all,
+/// or some that follow one another.
 pub(crate) fn is_arc(circle: &[bool]) -> bool
     requires some { 0 < length circle.now }
     requires few { length circle.now ≤ most_places }

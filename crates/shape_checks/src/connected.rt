@@ -9,8 +9,9 @@ use amoebot_state::{NoMemory, World};
 use std::alloc::Global;
 use tri_lattice::{Area, Node};
 
-/// Whether the shape is connected: any two occupied nodes are joined by a path of adjacent occupied nodes. A world with no
-/// amoebot is.
+/// Whether the shape is connected: any two occupied nodes are joined
+/// by a path of adjacent occupied nodes.
+/// A world with no amoebot is.
 ///
 /// The time is linear in the size of the area.
 pub fn is_connected(alloc: Global, world: &World) -> Result<bool, NoMemory>
@@ -51,10 +52,12 @@ fn mark_round(
 ) -> Result<(), NoMemory>
     requires search { IsSearch (occupied world.now) world.now.area marks.old.items order.old.items number }
     requires below { number < length order.old.items }
-    ensures search { OnOk result (IsSearch (occupied world.now) world.now.area marks.new.items order.new.items (number + 1)) }
+    ensures search { OnOk result (
+        IsSearch (occupied world.now) world.now.area marks.new.items order.new.items (number + 1)) }
     ensures start { OnOk result (met order.new.items 0 ≡ met order.old.items 0) }
     ensures measure { OnOk result (
-        unmarked_count marks.new.items + length order.new.items ≡ unmarked_count marks.old.items + length order.old.items) }
+        unmarked_count marks.new.items + length order.new.items
+        ≡ unmarked_count marks.old.items + length order.old.items) }
 {
     world.keeps();
     let area = world.area();
@@ -91,7 +94,8 @@ fn mark(
 /// Whether all occupied nodes are marked.
 pub(crate) fn are_marked(world: &World, marks: &[bool]) -> bool
     requires { length marks.now ≡ world.now.area.w * world.now.area.h }
-    ensures { Decides result ((v : Node) → IsTrue (occupied world.now v) → IsTrue (node_mark world.now.area marks.now v)) }
+    ensures { Decides result ((v : Node) → IsTrue (occupied world.now v)
+        → IsTrue (node_mark world.now.area marks.now v)) }
 {
     world.keeps();
     let area = world.area();

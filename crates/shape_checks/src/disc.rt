@@ -67,7 +67,8 @@ fn is_row_filled(world: &World, centre: Node, radius: u16, y: i16) -> bool
     requires few { radius ≤ most_radius }
     requires low { negsuc 6999 ≤ℤ y }
     requires high { y ≤ℤ pos 7000 }
-    ensures { Decides result ((v : Node) → v.y ≡ y → distance centre v < radius → IsTrue (occupied world.now v)) }
+    ensures { Decides result ((v : Node) → v.y ≡ y
+        → distance centre v < radius → IsTrue (occupied world.now v)) }
 {
     for right in 0..2 * radius {
         let x = centre.x - radius as i16 + right as i16;
@@ -100,7 +101,8 @@ pub(crate) fn ring(
     requires few { radius ≤ most_radius }
     ensures len { IfOk result (λ ring. length ring.items ≡ 6 * radius) }
     ensures places { IfOk result (λ ring.
-        (k : ℕ) → k < 6 * radius → circle_entry ring.items k ≡ occupied world.now (ring_node centre radius k)) }
+        (k : ℕ) → k < 6 * radius
+        → circle_entry ring.items k ≡ occupied world.now (ring_node centre radius k)) }
 {
     let mut ring = Vec::new(alloc);
     for k in 0..6 * radius {
@@ -110,8 +112,8 @@ pub(crate) fn ring(
     Ok(ring)
 }
 
-/// The node at a place of the ring: the corners in directions 0 to 5 come first, second and so on, each with the nodes that
-/// lead to the next one.
+/// The node at a place of the ring: the corners in directions 0 to 5 come first, second and so on,
+/// each with the nodes that lead to the next one.
 fn ring_node(centre: Node, radius: u16, k: u16) -> Node
     requires central { IsCentral centre }
     requires some { 1 ≤ radius }

@@ -8,8 +8,9 @@ use amoebot_state::{NoMemory, World};
 use std::alloc::Global;
 use tri_lattice::Node;
 
-/// Whether the shape is a hexagon: there is an amoebot, all are contracted, and their nodes are, for some node and some radius
-/// of at least 1, all nodes that are nearer to it, and of the ring at that distance none, all, or some that follow one another.
+/// Whether the shape is a hexagon: there is an amoebot, all are contracted, and their nodes are,
+/// for some node and some radius of at least 1, all nodes that are nearer to it,
+/// and of the ring at that distance none, all, or some that follow one another.
 ///
 /// The full rings leave at most eight pairs of a node and a radius to try.
 pub fn is_hexagon(alloc: Global, world: &World) -> Result<bool, NoMemory>
@@ -101,7 +102,8 @@ fn width(ends: &Extremes) -> u16
     (ends.right.x - ends.left.x) as u16
 }
 
-/// Whether the shape is a hexagon of this radius round one of the four nodes that its extremes leave.
+/// Whether the shape is a hexagon of this radius round one of the four
+/// nodes that its extremes leave.
 fn has_centre(alloc: Global, world: &World, ends: &Extremes, radius: u16) -> Result<bool, NoMemory>
     requires contracted { AreContracted world.now }
     requires central { AreCentral ends.now }

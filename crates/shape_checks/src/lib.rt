@@ -1,4 +1,5 @@
-//! Measures of a shape: whether it is connected, whether it is a hexagon, and how often a variable has a value.
+//! Measures of a shape: whether it is connected, whether it is a hexagon,
+//! and how often a variable has a value.
 #![tactic(auto)]
 
 mod arc;

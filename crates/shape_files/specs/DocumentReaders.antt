@@ -29,11 +29,13 @@ journal_body false s =
 
 unfoldable pub body : Section → Contents → Reader Contents
 body Program s = a_checked_program >>= λ p. pure (record s { checked = Some p })
-body Shape s = a_shape s.version (var_count s.checked) (maxes_in s.checked) >>= λ c. pure (record s { world = Some c })
+body Shape s = a_shape s.version (var_count s.checked) (maxes_in s.checked) >>= λ c.
+    pure (record s { world = Some c })
 body Lists s = the_lists (bots_of s.world) >>= λ l. pure (record s { lists = Some l })
 body Schedule s = a_schedule (callers_of s.lists) >>= λ steps. pure (record s { schedule = Some steps })
 body Journal s = journal_body (has_old_values s.version) s
-body Final s = a_final s.version (var_count s.checked) (maxes_in s.checked) >>= λ c. pure (record s { final_world = Some c })
+body Final s = a_final s.version (var_count s.checked) (maxes_in s.checked) >>= λ c.
+    pure (record s { final_world = Some c })
 body Turns s = the_turns s.version >>= λ u. pure s
 
 unfoldable pub document_from : ℕ → Form → Reader Contents

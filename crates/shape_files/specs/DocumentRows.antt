@@ -69,7 +69,8 @@ journal_text = codes "journal\nentry 0 0 0 0 0 expand head 0 spot 3 3 0 body 0 3
 
 -- with old values
 abbrev full_journal : List ℕ
-full_journal = codes "journal\nentry 0 0 0 0 0 expand head 0 spot 3 3 empty to 0 body 0 2 3 2 3 0 + to 3 3 2 3 0 +\nend\n"
+full_journal = codes "journal\nentry 0 0 0 0 0 expand head 0 spot 3 3 empty to 0 "
+    ++ codes "body 0 2 3 2 3 0 + to 3 3 2 3 0 +\nend\n"
 
 abbrev final_text : List ℕ
 final_text = codes "final\narea 0 0 8 8\nbot 3 3 2 3 0 +\nend\n"
@@ -161,7 +162,8 @@ with_record a = record a { plain = Some (plain_made ∷ []); final_world = Some 
 
 -- the same with old values
 abbrev pub with_full_record : Contents → Contents
-with_full_record a = record a { version = 3; entries = Some (entry_made ∷ []); final_world = Some (shape_of_one bot_after) }
+with_full_record a =
+    record a { version = 3; entries = Some (entry_made ∷ []); final_world = Some (shape_of_one bot_after) }
 
 -- ---- documents
 
@@ -198,7 +200,8 @@ fault_rows =
     ∷ fails Run (with_bot (codes "bot 2 3 2 3 0 +\nbot 2 3 2 3 0 +\n")) 8 Overlap
     ∷ fails Run (with_shape ++ codes "lists\nturns 2\nlist 1\nend\n") 11 BadId
     ∷ fails Run (with_lists ++ codes "schedule\n1 end") 14 BadId
-    ∷ fails Run (codes "amoebot 1\nprogram\naction out when contracted\nmove expand p end shape") 4 UnknownName
+    ∷ fails Run
+    (codes "amoebot 1\nprogram\naction out when contracted\nmove expand p end shape") 4 UnknownName
     ∷ fails Replay (with_shape ++ codes "journal\nentry 1 0 0 0 0 none\nend\n" ++ final_text) 10 BadPlace
     -- old values in a version without them, and none in one with them
     ∷ fails Replay (with_shape ++ full_journal ++ final_text) 10 Unexpected

@@ -1,4 +1,5 @@
--- Documents: what each section is, in the state that those before it gave, and what a document of a form has.
+-- Documents: what each section is, in the state that those before it gave,
+-- and what a document of a form has.
 use Rattle.std.specs.Prelude.{◌≡◌, ℕ, Bool, true, false, List, [], ◌∷◌, Option, Some, None, Result, Ok, Err, length}
 use Rattle.text_tokens.specs.declared.refusal.Refusal.{Refusal}
 use Rattle.text_tokens.specs.declared.refusal.RefusalKind.TheVariants.{Trailing}
@@ -25,8 +26,9 @@ use Rattle.shape_files.specs.declared.section_kind.Form.{Form}
 use Rattle.shape_files.specs.Frame.{course_of, least_version, IsInFrameFrom}
 use Rattle.shape_files.specs.FrameLaws.{SameTexts}
 
--- What a document has: its version, its program, the configuration at the start, the lists, the steps of the schedule,
--- the entries of the journal with old values or without, and the configuration at the end.
+-- What a document has: its version, its program, the configuration at the start, the lists,
+-- the steps of the schedule, the entries of the journal with old values or without,
+-- and the configuration at the end.
 -- Its turns are read by their grammar alone.
 pub record Contents : Type 0 where
   pub version : ℕ
@@ -99,11 +101,13 @@ JournalBody false s =
 
 abbrev pub Body : Section → Contents → Lang Contents
 Body Program s = Made IsCheckedProgram (λ p. record s { checked = Some p })
-Body Shape s = Made (IsShape s.version (var_count s.checked) (maxes_in s.checked)) (λ c. record s { world = Some c })
+Body Shape s =
+    Made (IsShape s.version (var_count s.checked) (maxes_in s.checked)) (λ c. record s { world = Some c })
 Body Lists s = Made (IsLists (bots_of s.world)) (λ l. record s { lists = Some l })
 Body Schedule s = Made (IsSchedule (callers_of s.lists)) (λ steps. record s { schedule = Some steps })
 Body Journal s = JournalBody (has_old_values s.version) s
-Body Final s = Made (IsFinal s.version (var_count s.checked) (maxes_in s.checked)) (λ c. record s { final_world = Some c })
+Body Final s = Made (IsFinal s.version (var_count s.checked) (maxes_in s.checked)) (λ c.
+    record s { final_world = Some c })
 Body Turns s = Made (IsTurns s.version) (λ u. s)
 
 -- ---- documents
@@ -119,7 +123,8 @@ IsDocument form = IsDocumentFrom least_version form
 -- the bytes are a document of the form that has this, of a version that is not below a least one
 abbrev pub HasContentsFrom : ℕ → Form → List ℕ → Contents → Type 0
 HasContentsFrom least form bytes a =
-    (ts : List Lexeme) (last : Refusal) → AreTokens bytes 0 ts last → IsInput (IsDocumentFrom least form) Trailing last ts a
+    (ts : List Lexeme) (last : Refusal) → AreTokens bytes 0 ts last
+    → IsInput (IsDocumentFrom least form) Trailing last ts a
 
 -- the same for each version that there is
 abbrev pub HasContents : Form → List ℕ → Contents → Type 0
@@ -134,7 +139,8 @@ IsDocumentFaultFrom least form bytes r =
 
 -- ---- laws
 
--- Of any bytes one thing holds: they are a document of the form, which has one thing, or they have one first fault.
+-- Of any bytes one thing holds: they are a document of the form, which has one thing,
+-- or they have one first fault.
 abbrev pub FormSaysFrom : ℕ → Form → List ℕ → Result Contents Refusal → Type 0
 FormSaysFrom least form bytes (Ok a) = HasContentsFrom least form bytes a
 FormSaysFrom least form bytes (Err r) = IsDocumentFaultFrom least form bytes r

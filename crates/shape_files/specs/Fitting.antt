@@ -1,4 +1,5 @@
--- What a document has fits together: it has the sections of its form, and each section names only what the others have.
+-- What a document has fits together: it has the sections of its form,
+-- and each section names only what the others have.
 use Rattle.std.specs.Prelude.{◌≡◌, ◌<◌, ◌≤◌, ℕ, Bool, true, false, List, [], None, length}
 use Rattle.std.specs.Option.{IfSome, IsSome}
 use Rattle.std.specs.List.{All}
@@ -36,7 +37,8 @@ HasJournal a = HasJournalBy (has_old_values a.version) a
 -- what a document of the form always has, and what it never has
 abbrev pub HasSections : Form → Contents → Type 0
 HasSections Run a = IsSome a.checked × IsSome a.world × IsSome a.lists × IsUnrecorded a
-HasSections Interleave a = IsSome a.checked × IsSome a.world × IsSome a.lists × IsSome a.schedule × IsUnrecorded a
+HasSections Interleave a =
+    IsSome a.checked × IsSome a.world × IsSome a.lists × IsSome a.schedule × IsUnrecorded a
 HasSections Check a = IsSome a.checked × IsUnrecorded a
 HasSections Replay a = IsSome a.checked × IsSome a.world × HasJournal a × IsSome a.final_world
 HasSections Measure a = IsSome a.checked × IsSome a.world
@@ -49,12 +51,15 @@ pub record AreTogether (a : Contents) : Type 0 where
 
 -- ---- what they say of each other
 
--- a journal has old values only in a version that has them, and lacks them only in one that has none
+-- a journal has old values only in a version that has them,
+-- and lacks them only in one that has none
 abbrev pub IsByVersion : Contents → Type 0
-IsByVersion a = (has_old_values a.version ≡ true → a.plain ≡ None) × (has_old_values a.version ≡ false → a.entries ≡ None)
+IsByVersion a = (has_old_values a.version ≡ true → a.plain ≡ None)
+    × (has_old_values a.version ≡ false → a.entries ≡ None)
 
 -- so many entries as there may be, of such amoebots and actions, where each is written so
-pub record AreEntriesOf {E : Type 0} (written : E → WrittenEntry) (bots actions : ℕ) (es : List E) : Type 0 where
+pub record AreEntriesOf {E : Type 0} (written : E → WrittenEntry)
+    (bots actions : ℕ) (es : List E) : Type 0 where
   pub few : length es ≤ most_turns
   pub there : All (λ e. (written e).bot < bots) es
   pub known : All (λ e. is_known bots actions (written e) ≡ true) es
@@ -70,11 +75,14 @@ pub record FitTogether (a : Contents) : Type 0 where
   pub world : IfSome a.world (λ c. c.maxes ≡ maxes_in a.checked)
   pub final_world : IfSome a.final_world (λ c. c.maxes ≡ maxes_in a.checked)
   -- there are walls only in a version that may have them
-  pub walls : may_have_walls a.version ≡ false → IfSome a.world (λ c. c.walls ≡ []) × IfSome a.final_world (λ c. c.walls ≡ [])
+  pub walls : may_have_walls a.version ≡ false
+      → IfSome a.world (λ c. c.walls ≡ []) × IfSome a.final_world (λ c. c.walls ≡ [])
   -- the amoebots of the lists are the shape's, and the callers of the schedule have lists
   pub lists : IfSome a.lists (λ l. IsSome a.world × HaveBots (bots_of a.world) l)
-  pub schedule : IfSome a.schedule (λ steps. IsSome a.lists × All (λ caller. caller < callers_of a.lists) steps)
-  -- the amoebots of the entries are the shape's, and their actions the program's; they have old values as the version says
+  pub schedule : IfSome a.schedule (λ steps.
+      IsSome a.lists × All (λ caller. caller < callers_of a.lists) steps)
+  -- the amoebots of the entries are the shape's, and their actions the program's;
+  -- they have old values as the version says
   pub entries : IfSome a.entries (AreEntriesOf written_full (bots_of a.world) (actions_of a.checked))
   pub plain : IfSome a.plain (AreEntriesOf written_plain (bots_of a.world) (actions_of a.checked))
   pub by_version : IsByVersion a
@@ -97,7 +105,8 @@ pub record IsWritableProgram (p : tree.Program) : Type 0 where
   pub writable : is_writable p ≡ true
   pub checked : faults p ≡ []
 
--- the program of a document can be printed, its shapes are those of worlds, and its lists are such as callers may have
+-- the program of a document can be printed, its shapes are those of worlds,
+-- and its lists are such as callers may have
 pub record IsSoundDocument (a : Contents) : Type 0 where
   pub program : IfSome a.checked IsWritableProgram
   pub world : IfSome a.world IsWorldShape
@@ -108,7 +117,8 @@ pub record IsSoundDocument (a : Contents) : Type 0 where
 
 -- so it is with each document
 abbrev pub DocumentsAreSound : Type 0
-DocumentsAreSound = (form : Form) (bytes : List ℕ) (a : Contents) → HasContents form bytes a → IsSoundDocument a
+DocumentsAreSound =
+    (form : Form) (bytes : List ℕ) (a : Contents) → HasContents form bytes a → IsSoundDocument a
 
 -- what a document of a form has fits together
 abbrev pub DocumentsFit : Type 0

@@ -39,7 +39,8 @@ is_header_word = is_the Word (codes "amoebot")
 -- one of the eight section words
 abbrev pub is_section_word : Lexeme → Bool
 is_section_word t =
-    is_header_word t || is_word_of_section Program t || is_word_of_section Shape t || is_word_of_section Lists t
+    is_header_word t || is_word_of_section Program t
+    || is_word_of_section Shape t || is_word_of_section Lists t
     || is_word_of_section Schedule t || is_word_of_section Journal t
     || is_word_of_section Final t || is_word_of_section Turns t
 
@@ -95,7 +96,8 @@ may_end (may k c d) = may_end d
 
 -- ---- the document
 
--- What stands from a place on. Each section is read in the state that those before it gave, and gives a new one.
+-- What stands from a place on.
+-- Each section is read in the state that those before it gave, and gives a new one.
 pub data IsRest {S : Type 0} (Body : Section → S → Lang S) : Course → S → List Symbol → S → Type 0 where
   -- a section that may come, and the rest
   section : {c d : Course} {k : Section} {s r b : S} {xs ys : List Symbol}

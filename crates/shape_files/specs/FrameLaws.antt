@@ -16,8 +16,10 @@ pub record HeaderIsDecided : Type 0 where
   pub exact : Exact IsHeader header
   pub decided : IsDecided IsHeader
 
--- What the frame asks of the sections: in every state each is a part behind which nothing of it comes, and begins with its word.
-pub record AreSections {S : Type 0} (Body : Section → S → Lang S) (body : Section → S → Reader S) : Type 0 where
+-- What the frame asks of the sections: in every state each is a part behind which nothing
+-- of it comes, and begins with its word.
+pub record AreSections {S : Type 0} (Body : Section → S → Lang S)
+    (body : Section → S → Reader S) : Type 0 where
   pub part : (k : Section) (s : S) → IsPart (Body k s) (body k s) always
   pub start : (k : Section) (s : S) → Starts (Body k s) (is_word_of_section k) no_limit
 
@@ -29,7 +31,8 @@ pub record Framed {S : Type 0} (P : Lang S) (p : Reader S) : Type 0 where
   pub decided_input : IsDecidedInput P Trailing
 
 abbrev pub FrameLaw : {S : Type 0} → (Section → S → Lang S) → (Section → S → Reader S) → Type 0
-FrameLaw {S} Body body = AreSections Body body → (c : Course) (start : ℕ → S) → Framed (IsInFrame Body c start) (in_frame body c start)
+FrameLaw {S} Body body = AreSections Body body → (c : Course) (start : ℕ → S)
+    → Framed (IsInFrame Body c start) (in_frame body c start)
 
 -- ---- the forms as they are written down
 
@@ -49,7 +52,8 @@ module _ {S : Type 0} (Body : Section → S → Lang S) where
 abbrev pub Distinct : Course → Type 0
 Distinct ends = Unit {0}
 Distinct (needs k c) = Distinct c
-Distinct (may k c d) = ((t : Lexeme) → is_word_of_section k t ≡ true → comes d t ≡ None) × Distinct c × Distinct d
+Distinct (may k c d) =
+    ((t : Lexeme) → is_word_of_section k t ≡ true → comes d t ≡ None) × Distinct c × Distinct d
 
 abbrev pub BeginWithTheirWords : {S : Type 0} → (Section → S → Lang S) → Type 0
 BeginWithTheirWords {S} Body = (k : Section) (s : S) → Starts (Body k s) (is_word_of_section k) no_limit

@@ -16,9 +16,11 @@ module _ {S : Type 0} (body : Section → S → Reader S) where
   unfoldable pub rest_at : Course → S → Option Lexeme → Reader S
   rest_at ends s next = pure s
   rest_at (needs k c) s next =
-      if starts_at (is_word_of_section k) next then (body k s >>= λ r. choose (λ u. rest_at c r u)) else missing next
+      if starts_at (is_word_of_section k) next
+      then (body k s >>= λ r. choose (λ u. rest_at c r u)) else missing next
   rest_at (may k c d) s next =
-      if starts_at (is_word_of_section k) next then (body k s >>= λ r. choose (λ u. rest_at c r u)) else rest_at d s next
+      if starts_at (is_word_of_section k) next
+      then (body k s >>= λ r. choose (λ u. rest_at c r u)) else rest_at d s next
 
   abbrev pub rest : Course → S → Reader S
   rest c s = choose (λ next. rest_at c s next)

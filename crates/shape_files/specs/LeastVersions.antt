@@ -26,7 +26,8 @@ EarlierIsBadRange =
     → lexeme_value version < least
     → IsDocumentFaultFrom least form bytes (on_line version.line BadRange)
 
--- A document from a least version on is a document of the form, and its version is not below the least.
+-- A document from a least version on is a document of the form,
+-- and its version is not below the least.
 abbrev pub LaterIsDocument : Type 0
 LaterIsDocument =
     (least : ℕ) (form : Form) (bytes : List ℕ) (a : Contents)

@@ -15,7 +15,8 @@ use Rattle.shape_text.specs.Rereading.{IsWritableConfig}
 use Rattle.shape_files.specs.declared.section_kind.Form.TheVariants.{Run, Replay}
 use Rattle.shape_files.specs.Documents.{Contents, var_count, actions_of, maxes_in, bots_of, HasContents}
 
--- the text of a run in documents of the version: its journal, its last shape and its turns, of so many variables
+-- the text of a run in documents of the version: its journal, its last shape and its turns,
+-- of so many variables
 abbrev pub run_text : ℕ → ℕ → List Entry → Config → MarkLists → List ℕ
 run_text version vars entries last marks =
     journal_of_version version vars entries ++ (shape_text (codes "final") vars last ++ turns_text marks)
@@ -47,7 +48,8 @@ pub record KeepsRunLimits (a : Contents) (es : List Entry) (c : Config) (m : Mar
 abbrev pub EndsLine : List ℕ → Type 0
 EndsLine bytes = (front : List ℕ) × (bytes ≡ front ++ codes "\n")
 
--- such a document, followed by such a text, has the run's entries and its last configuration besides what it had
+-- such a document, followed by such a text, has the run's entries and its last
+-- configuration besides what it had
 abbrev pub RunsAreReplayed : Type 0
 RunsAreReplayed =
     (bytes : List ℕ) (a : Contents) (entries : List Entry) (last : Config) (marks : MarkLists)

@@ -40,12 +40,16 @@ record_behind s = needed_section Final s >>= λ r. optional_section Turns r >>= 
 
 -- what stands behind the program
 unfoldable pub behind_program : Form → Contents → Reader Contents
-behind_program form.Run s = needed_section Shape s >>= λ r. needed_section Lists r >>= λ q. optional_section Schedule q >>= left
-behind_program form.Interleave s = needed_section Shape s >>= λ r. needed_section Lists r >>= λ q. needed_section Schedule q
+behind_program form.Run s =
+    needed_section Shape s >>= λ r. needed_section Lists r >>= λ q. optional_section Schedule q >>= left
+behind_program form.Interleave s =
+    needed_section Shape s >>= λ r. needed_section Lists r >>= λ q. needed_section Schedule q
 behind_program form.Check s = optional_section Shape s >>= λ o. if o.0 then callers o.1 else left o
-behind_program form.Replay s = needed_section Shape s >>= λ r. callers r >>= λ q. needed_section Journal q >>= record_behind
+behind_program form.Replay s =
+    needed_section Shape s >>= λ r. callers r >>= λ q. needed_section Journal q >>= record_behind
 behind_program form.Measure s =
-    needed_section Shape s >>= λ r. callers r >>= λ q. optional_section Journal q >>= λ o. if o.0 then record_behind o.1 else left o
+    needed_section Shape s >>= λ r. callers r >>= λ q.
+    optional_section Journal q >>= λ o. if o.0 then record_behind o.1 else left o
 
 unfoldable pub straight : Form → Contents → Reader Contents
 straight f s = needed_section Program s >>= λ r. behind_program f r

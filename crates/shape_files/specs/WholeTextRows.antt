@@ -1,4 +1,5 @@
--- Three small documents as they are printed whole: a program alone, and what a run of it left, without old values and with them.
+-- Three small documents as they are printed whole: a program alone, and what a run of it left,
+-- without old values and with them.
 use Rattle.std.specs.Prelude.{◌≡◌, [], ◌∷◌, ◌++◌, Some, None, codes}
 use Rattle.claim_core.specs.declared.marks.Mark.TheVariants as mark
 use Rattle.claim_core.specs.Turns.{MarkLists}
@@ -23,7 +24,8 @@ pub record WholeTextRows : Type 0 where
   pub full_text : document_text (with_full_record program_and_shape) (Some two_marks)
       ≡ codes "amoebot 3\nprogram\nguard off\naction out\nwhen contracted\nmove expand head 0\nend\n"
       ++ codes "shape\narea 0 0 8 8\nbot 2 3 2 3 0 +\nend\n"
-      ++ codes "journal\nentry 0 0 0 0 0 expand head 0 spot 3 3 empty to 0 body 0 2 3 2 3 0 + to 3 3 2 3 0 +\nend\n"
+      ++ codes "journal\nentry 0 0 0 0 0 expand head 0 spot 3 3 empty to 0 "
+      ++ codes "body 0 2 3 2 3 0 + to 3 3 2 3 0 +\nend\n"
       ++ codes "final\narea 0 0 8 8\nbot 3 3 2 3 0 +\nend\n"
       ++ codes "turns\nturn 0 0 done 0\nturn 0 1 idle 1\nend\n"
   pub program : IsWritableDocument Check only_program None

@@ -1,4 +1,5 @@
--- Documents that are printed whole. Such a document has what was printed, lines of the program aside.
+-- Documents that are printed whole.
+-- Such a document has what was printed, lines of the program aside.
 use Rattle.std.specs.Prelude.{◌≡◌, ◌≤◌, ℕ, List, [], ◌∷◌, ◌++◌, Option, Some, None, length, codes, decimal}
 use Rattle.std.specs.Option.{option_map, IfSome, IsSome}
 use Rattle.std.specs.List.{All, flat_map}
@@ -52,9 +53,11 @@ pub record IsWritableShape (a : Contents) (c : Config) : Type 0 where
   pub maxes : c.maxes ≡ maxes_in a.checked
 
 -- entries that break no limit, of the amoebots and actions that there are, where each is written so
-pub record AreWritableEntries {E : Type 0} (written : E → WrittenEntry) (a : Contents) (es : List E) : Type 0 where
+pub record AreWritableEntries {E : Type 0} (written : E → WrittenEntry)
+    (a : Contents) (es : List E) : Type 0 where
   pub few : length es ≤ most_turns
-  pub each : All (λ e. KeepsLimits (bots_of a.world) (actions_of a.checked) (var_count a.checked) (written e)) es
+  pub each : All (λ e.
+      KeepsLimits (bots_of a.world) (actions_of a.checked) (var_count a.checked) (written e)) es
 
 -- Marks of such numbers as a text can hold.
 -- They stand behind a last shape.
@@ -64,7 +67,8 @@ pub record AreWritableMarks (a : Contents) (m : MarkLists) : Type 0 where
   pub each : All (AreWritable a.version) m.marks
 
 -- The version is one that there is.
--- The sections are those of the form, without lists and a schedule, and each of them can be printed.
+-- The sections are those of the form, without lists and a schedule,
+-- and each of them can be printed.
 pub record IsWritableDocument (form : Form) (a : Contents) (marks : Option MarkLists) : Type 0 where
   pub version : IsVersion a.version
   pub sections : HasSections form a

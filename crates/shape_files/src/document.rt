@@ -26,7 +26,8 @@ pub fn read_sections(alloc: Global, bytes: &[u8], form: Form) -> Result<Sections
     read_sections_from(alloc, bytes, form, LEAST_VERSION)
 }
 
-/// Reads bytes that are a document of the form, of a version that is not below the least: its sections, or its first fault.
+/// Reads bytes that are a document of the form, of a version that is not below the least:
+/// its sections, or its first fault.
 ///
 /// A version below the least is a `BadRange` at its number, before every fault behind it.
 pub fn read_sections_from(

@@ -18,7 +18,8 @@ fn need(
     parts: &mut Parts,
     section: Section,
 ) -> Result<(), ReadRefusal>
-    ensures { Gives (λ _. contents parts.new) (needed_section section (contents parts.old)) tokens.old result tokens.new }
+    ensures { Gives (λ _. contents parts.new)
+        (needed_section section (contents parts.old)) tokens.old result tokens.new }
 {
     if !is_next(tokens, section) {
         return Err(missing(tokens).into());
@@ -33,7 +34,8 @@ fn may(
     parts: &mut Parts,
     section: Section,
 ) -> Result<bool, ReadRefusal>
-    ensures { Gives (λ came. (came, contents parts.new)) (optional_section section (contents parts.old)) tokens.old result tokens.new }
+    ensures { Gives (λ came. (came, contents parts.new))
+        (optional_section section (contents parts.old)) tokens.old result tokens.new }
 {
     if !is_next(tokens, section) {
         return Ok(false);
@@ -60,7 +62,8 @@ fn behind_journal(
     tokens: &mut Tokens<'_>,
     parts: &mut Parts,
 ) -> Result<(), ReadRefusal>
-    ensures { Gives (λ _. contents parts.new) (record_behind (contents parts.old)) tokens.old result tokens.new }
+    ensures { Gives (λ _. contents parts.new)
+        (record_behind (contents parts.old)) tokens.old result tokens.new }
 {
     need(alloc, tokens, parts, Section::Final)?;
     may(alloc, tokens, parts, Section::Turns)?;
@@ -75,7 +78,8 @@ fn read_behind_program(
     parts: &mut Parts,
     form: Form,
 ) -> Result<(), ReadRefusal>
-    ensures { Gives (λ _. contents parts.new) (behind_program form (contents parts.old)) tokens.old result tokens.new }
+    ensures { Gives (λ _. contents parts.new)
+        (behind_program form (contents parts.old)) tokens.old result tokens.new }
 {
     match form {
         Form::Run => {
@@ -120,7 +124,8 @@ pub(crate) fn read_form(
     parts: &mut Parts,
     form: Form,
 ) -> Result<(), ReadRefusal>
-    ensures { Gives (λ _. contents parts.new) (straight form (contents parts.old)) tokens.old result tokens.new }
+    ensures { Gives (λ _. contents parts.new)
+        (straight form (contents parts.old)) tokens.old result tokens.new }
 {
     need(alloc, tokens, parts, Section::Program)?;
     read_behind_program(alloc, tokens, parts, form)

@@ -16,7 +16,8 @@ pub(crate) const LEAST_VERSION: u8 = 1;
 
 const GREATEST_VERSION: u32 = 3;
 
-/// Reads the header: the word `amoebot` and the version, which is 1, 2 or 3. Another version is a `BadRange`.
+/// Reads the header: the word `amoebot` and the version, which is 1, 2 or 3.
+/// Another version is a `BadRange`.
 pub fn read_head(tokens: &mut Tokens<'_>) -> Result<u8, Refusal>
     ensures tells { TellsOf IsHeader (λ v. v) tokens.old (as_read result) tokens.new }
     ensures reads { ReadsOf IsHeader (λ v. v) tokens.old (as_read result) tokens.new }
@@ -26,7 +27,8 @@ pub fn read_head(tokens: &mut Tokens<'_>) -> Result<u8, Refusal>
     read_version(tokens, LEAST_VERSION)
 }
 
-/// Reads the header, for the version, which is not below the least. Another version is a `BadRange`.
+/// Reads the header, for the version, which is not below the least.
+/// Another version is a `BadRange`.
 pub(crate) fn read_version(tokens: &mut Tokens<'_>, least: u8) -> Result<u8, Refusal>
     ensures reads { Gives (λ v. v) (header_from least) tokens.old (as_read result) tokens.new }
     ensures low { IfOk result (λ v. least ≤ v) }

@@ -1,4 +1,5 @@
-//! Whole documents: a header, and the sections of a form. The grammar of documents, and what reads them.
+//! Whole documents: a header, and the sections of a form.
+//! The grammar of documents, and what reads them.
 #![tactic(auto)]
 
 mod document;

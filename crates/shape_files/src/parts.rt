@@ -13,7 +13,8 @@ use journal_text::{Entries, PlainEntries};
 use schedule_text::Schedule;
 use std::marker::Model;
 
-/// The sections of a document that stand for something, each `Some` exactly where the document has it.
+/// The sections of a document that stand for something, each `Some`
+/// exactly where the document has it.
 #[derive(Drop)]
 pub struct Parts {
     /// The version of the document, 1 to 3.

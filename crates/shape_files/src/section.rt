@@ -30,7 +30,8 @@ fn read_entries(
     tokens: &mut Tokens<'_>,
     parts: &mut Parts,
 ) -> Result<(), ReadRefusal>
-    ensures { Gives (λ _. contents parts.new) (journal_body (part.has_old_values (contents parts.old).version) (contents parts.old))
+    ensures { Gives (λ _. contents parts.new)
+        (journal_body (part.has_old_values (contents parts.old).version) (contents parts.old))
         tokens.old result tokens.new }
 {
     let bots = parts.bots();
@@ -51,7 +52,8 @@ pub(crate) fn read_section(
     parts: &mut Parts,
     section: Section,
 ) -> Result<(), ReadRefusal>
-    ensures { Gives (λ _. contents parts.new) (body section (contents parts.old)) tokens.old result tokens.new }
+    ensures { Gives (λ _. contents parts.new)
+        (body section (contents parts.old)) tokens.old result tokens.new }
 {
     match section {
         Section::Program => parts.checked = Some(read_program(alloc, tokens)?),

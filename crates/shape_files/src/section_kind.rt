@@ -39,10 +39,12 @@ pub enum Form {
     Run,
     /// program, shape, lists, schedule.
     Interleave,
-    /// program, shape, perhaps lists and then perhaps a schedule, journal, final, and perhaps turns.
+    /// program, shape, perhaps lists and then perhaps a schedule, journal, final,
+    /// and perhaps turns.
     Replay,
     /// program, perhaps a shape, then perhaps lists, then perhaps a schedule.
     Check,
-    /// program, shape, perhaps lists and then perhaps a schedule, and perhaps journal, final, and perhaps turns.
+    /// program, shape, perhaps lists and then perhaps a schedule, and perhaps journal, final,
+    /// and perhaps turns.
     Measure,
 }

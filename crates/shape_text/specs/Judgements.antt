@@ -25,7 +25,8 @@ pub record JudgedAsWorlds : Type 0 where
       → shape_fault maxes s ≡ Some (on_line w.line BadWall)
   pub first : (maxes : List ℕ) (s : WrittenShape) (e : WorldRefusal)
       → HasWalls s
-      → (f : IsFirstFault (shape_frame maxes s) (map written_amoebot s.bots) e) (w : WrittenBot) (k : RefusalKind)
+      → (f : IsFirstFault (shape_frame maxes s) (map written_amoebot s.bots) e)
+      (w : WrittenBot) (k : RefusalKind)
       → slice_get s.bots f.place ≡ Some w
       → kind_of e ≡ Some k
       → shape_fault maxes s ≡ Some (on_line w.line k)

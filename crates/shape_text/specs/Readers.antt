@@ -47,13 +47,15 @@ abbrev pub all_bots : ℕ → Reader (List WrittenBot)
 all_bots vars = bots_from vars 0
 
 unfoldable pub a_drawing : Bool → ℕ → Reader WrittenShape
-a_drawing may vars = an_area >>= λ area. all_walls may >>= λ walls. all_bots vars >>= λ bots. pure (written_shape area walls bots)
+a_drawing may vars = an_area >>= λ area. all_walls may >>= λ walls.
+    all_bots vars >>= λ bots. pure (written_shape area walls bots)
 
 unfoldable pub a_written_shape : Bool → List ℕ → ℕ → Reader WrittenShape
 a_written_shape may text vars = a_word text >>= λ line. closed (a_drawing may vars) is_end
 
 unfoldable pub shape_under : Bool → List ℕ → ℕ → List ℕ → Reader Config
-shape_under may text vars maxes = judged (a_written_shape may text vars) (shape_fault maxes) >>= λ s. pure (stands_for maxes s)
+shape_under may text vars maxes =
+    judged (a_written_shape may text vars) (shape_fault maxes) >>= λ s. pure (stands_for maxes s)
 
 abbrev pub a_shape : ℕ → ℕ → List ℕ → Reader Config
 a_shape version = shape_under (may_have_walls version) (codes "shape")

@@ -27,4 +27,5 @@ pub record ShapeReadsBack (version vars : ℕ) (c : Config) : Type 0 where
   pub final : Says (IsFinal version vars c.maxes) (shape_text (codes "final") vars c) (Ok c)
 
 abbrev pub ShapesReadBack : Type 0
-ShapesReadBack = (version vars : ℕ) (c : Config) → vars ≤ most_vars → IsWritableConfig version vars c → ShapeReadsBack version vars c
+ShapesReadBack = (version vars : ℕ) (c : Config) → vars ≤ most_vars
+    → IsWritableConfig version vars c → ShapeReadsBack version vars c

@@ -1,4 +1,5 @@
--- Some texts of shapes in version 1, with values for one variable of at most 3, with their configuration or their first fault.
+-- Some texts of shapes in version 1, with values for one variable of at most 3,
+-- with their configuration or their first fault.
 use Rattle.std.specs.Prelude.{ℕ, ℤ, pos, negsuc, List, [], ◌∷◌, ◌++◌, Ok, Err, codes}
 use Rattle.tri_lattice.specs.Extent.{Extent}
 use Rattle.text_tokens.specs.declared.refusal.RefusalKind.{RefusalKind}
@@ -40,12 +41,15 @@ pub record ShapesAreRead : Type 0 where
   -- ---- texts
   pub no_amoebot : YieldsShape (codes "shape area 0 0 8 8 end") eight_by_eight []
   pub long_and_round : YieldsShape
-      (codes "shape\narea 0 0 8 8\nbot 3 3 2 3 5 - 3\nbot 7 0 7 0 0 + 0\nbot 0 7 0 7 1 + 1\nend\n") eight_by_eight
-      (shape_bot (pos 3) (pos 3) (pos 2) (pos 3) 5 Minus (3 ∷ []) ∷ shape_bot (pos 7) (pos 0) (pos 7) (pos 0) 0 Plus (0 ∷ [])
+      (codes "shape\narea 0 0 8 8\nbot 3 3 2 3 5 - 3\nbot 7 0 7 0 0 + 0\nbot 0 7 0 7 1 + 1\nend\n")
+      eight_by_eight
+      (shape_bot (pos 3) (pos 3) (pos 2) (pos 3) 5 Minus (3 ∷ [])
+      ∷ shape_bot (pos 7) (pos 0) (pos 7) (pos 0) 0 Plus (0 ∷ [])
       ∷ shape_bot (pos 0) (pos 7) (pos 0) (pos 7) 1 Plus (1 ∷ []) ∷ [])
   -- the farthest beginnings, the longest and the shortest sides
   pub left_above : YieldsShape
-      (codes "shape area - 4096 4096 128 1 bot -4096 4096 -4096 4096 0 + 0 bot -3969 4096 - 3970 4096 0 + 0 end")
+      (codes "shape area - 4096 4096 128 1 bot -4096 4096 -4096 4096 0 + 0 "
+      ++ codes "bot -3969 4096 - 3970 4096 0 + 0 end")
       (an_area_of (negsuc 4095) (pos 4096) 128 1)
       (shape_bot (negsuc 4095) (pos 4096) (negsuc 4095) (pos 4096) 0 Plus (0 ∷ [])
       ∷ shape_bot (negsuc 3968) (pos 4096) (negsuc 3969) (pos 4096) 0 Plus (0 ∷ []) ∷ [])
@@ -54,11 +58,15 @@ pub record ShapesAreRead : Type 0 where
       (shape_bot (pos 4096) (negsuc 3968) (pos 4096) (negsuc 3968) 0 Plus (0 ∷ []) ∷ [])
   -- no variable, and eight
   pub no_value : Says (IsShape 1 0 zeros) (codes "shape area 0 0 8 8 bot 2 3 2 3 0 + end")
-      (Ok (with_these (frame_of eight_by_eight zeros) (shape_bot (pos 2) (pos 3) (pos 2) (pos 3) 0 Plus [] ∷ [])))
-  pub eight_values : Says (IsShape 1 8 rising) (codes "shape area 0 0 8 8 bot 2 3 2 3 0 + 1 2 3 4 5 6 7 255 end")
-      (Ok (with_these (frame_of eight_by_eight rising) (shape_bot (pos 2) (pos 3) (pos 2) (pos 3) 0 Plus rising ∷ [])))
+      (Ok (with_these (frame_of eight_by_eight zeros)
+      (shape_bot (pos 2) (pos 3) (pos 2) (pos 3) 0 Plus [] ∷ [])))
+  pub eight_values : Says (IsShape 1 8 rising)
+      (codes "shape area 0 0 8 8 bot 2 3 2 3 0 + 1 2 3 4 5 6 7 255 end")
+      (Ok (with_these (frame_of eight_by_eight rising)
+      (shape_bot (pos 2) (pos 3) (pos 2) (pos 3) 0 Plus rising ∷ [])))
   pub last_shape : Says (IsFinal 1 1 up_to_3) (codes "final area 0 0 8 8 bot 2 3 2 3 0 + 1 end")
-      (Ok (with_these (frame_of eight_by_eight up_to_3) (shape_bot (pos 2) (pos 3) (pos 2) (pos 3) 0 Plus (1 ∷ []) ∷ [])))
+      (Ok (with_these (frame_of eight_by_eight up_to_3)
+      (shape_bot (pos 2) (pos 3) (pos 2) (pos 3) 0 Plus (1 ∷ []) ∷ [])))
   -- the last amoebot that a shape may have
   pub last_amoebot : Says (AreBots 0 4095) (codes "bot 0 0 0 0 0 +")
       (Ok (written_bot 1 (shape_bot (pos 0) (pos 0) (pos 0) (pos 0) 0 Plus []) ∷ []))
@@ -75,7 +83,8 @@ pub record ShapesAreRead : Type 0 where
   pub coordinate_10000 : FailsInShape (codes "bot\n10000 3 2 3 0 + 0 end") 4 BadRange
   pub rotation_6 : FailsInShape (codes "bot 2 3 2 3\n6 + 0 end") 4 BadRange
   pub value_256 : FailsInShape (codes "bot 2 3 2 3 0 +\n256 end") 4 BadRange
-  pub one_too_many : Says (AreBots 0 4095) (codes "bot 0 0 0 0 0 +\nbot 0 0 0 0 0 +") (Err (on_line 2 TooMany))
+  pub one_too_many : Says (AreBots 0 4095)
+      (codes "bot 0 0 0 0 0 +\nbot 0 0 0 0 0 +") (Err (on_line 2 TooMany))
   -- before what else is wrong with it
   pub one_too_many_first : Says (AreBots 0 4096) (codes "bot\n10000 0 0 0 0 +") (Err (on_line 1 TooMany))
   -- ---- amoebots that break a rule
@@ -89,7 +98,8 @@ pub record ShapesAreRead : Type 0 where
   pub tail_on_tail : FailsInShape (codes "bot 3 3 2 3 0 + 0\nbot 2 4 2 3 0 + 0 end") 4 Overlap
   pub value_4 : FailsInShape (codes "bot\n2 3 2 3 0 +\n4 end") 3 BadValue
   -- no variable, and a value above 0
-  pub no_maximum : Says (IsShape 1 1 zeros) (codes "shape area 0 0 8 8\nbot 2 3 2 3 0 + 1 end") (Err (on_line 2 BadValue))
+  pub no_maximum : Says (IsShape 1 1 zeros)
+      (codes "shape area 0 0 8 8\nbot 2 3 2 3 0 + 1 end") (Err (on_line 2 BadValue))
   -- ---- the first rule of an amoebot
   pub box_before_adjacent : FailsInShape (codes "bot 9 3 2 3 0 + 4 end") 3 OutOfBox
   pub adjacent_before_overlap : FailsInShape (codes "bot 2 3 2 3 0 + 0\nbot 2 3 4 3 0 + 4 end") 4 NotAdjacent
@@ -97,8 +107,10 @@ pub record ShapesAreRead : Type 0 where
   -- ---- the first amoebot
   pub first_id : FailsInShape (codes "bot 2 3 2 3 0 + 4\nbot 9 3 9 3 0 + 0 end") 3 BadValue
   pub first_id_of_a_line : FailsInShape (codes "bot 2 3 2 3 0 + 4 bot 9 3 9 3 0 + 0 end") 3 BadValue
-  pub second_of_three : FailsInShape (codes "bot 2 3 2 3 0 + 0\nbot 9 3 9 3 0 + 0\nbot 2 3 2 3 0 + 0 end") 4 OutOfBox
-  pub third_on_the_second : FailsInShape (codes "bot 2 3 2 3 0 + 0\nbot 4 3 4 3 0 + 0\nbot 4 4 4 3 0 + 0 end") 5 Overlap
+  pub second_of_three : FailsInShape
+      (codes "bot 2 3 2 3 0 + 0\nbot 9 3 9 3 0 + 0\nbot 2 3 2 3 0 + 0 end") 4 OutOfBox
+  pub third_on_the_second : FailsInShape
+      (codes "bot 2 3 2 3 0 + 0\nbot 4 3 4 3 0 + 0\nbot 4 4 4 3 0 + 0 end") 5 Overlap
   -- ---- when they are judged: behind all of the grammar, and before what follows
   pub range_before_rule : FailsInShape (codes "bot 9 3 9 3 0 + 0\nbot 2 3 2 3 0 +\n256 end") 5 BadRange
   pub token_before_rule : FailsInShape (codes "bot 9 3 9 3 0 + 0\nlists") 4 Unexpected
@@ -108,7 +120,8 @@ pub record ShapesAreRead : Type 0 where
   pub rule_before_byte : FailsInShape (codes "bot 9 3 9 3 0 + 0 end\n,") 3 OutOfBox
   -- ---- tokens that do not belong there
   pub other_word : FailsAsShape (codes "final area 0 0 8 8 end") 1 Unexpected
-  pub other_word_of_the_last : Says (IsFinal 1 1 up_to_3) (codes "shape area 0 0 8 8 end") (Err (on_line 1 Unexpected))
+  pub other_word_of_the_last : Says (IsFinal 1 1 up_to_3)
+      (codes "shape area 0 0 8 8 end") (Err (on_line 1 Unexpected))
   pub no_area : FailsAsShape (codes "shape\nbot 2 3 2 3 0 + 0 end") 2 Unexpected
   pub three_numbers : FailsAsShape (codes "shape area 0 0 8\nend") 2 Unexpected
   pub five_numbers : FailsAsShape (codes "shape area 0 0 8 8\n8 end") 2 Unexpected

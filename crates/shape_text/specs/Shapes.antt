@@ -7,7 +7,8 @@
 -- The ids of the amoebots are their places.
 -- A beginning farther than 4,096 from 0 and a side that is not 1 to 128 is a BadRange.
 -- The 16,385th `wall` is TooMany, and so is the 4,097th `bot`.
--- Behind `end` the walls are judged in their order, and then the amoebots by rising id, as a world judges them.
+-- Behind `end` the walls are judged in their order, and then the amoebots by rising id,
+-- as a world judges them.
 -- The first that breaks a rule is refused at its word, for the first rule that it breaks.
 use Rattle.std.specs.Prelude.{ℕ, ℤ, Bool, true, false, List, [], ◌∷◌, ◌++◌, Option, Some, None, map, codes, if◌then◌else◌}
 use Rattle.std.specs.Option.{option_map, option_and_then, option_or}
@@ -118,7 +119,8 @@ kind_of world.NoMemory = None
 abbrev pub first_bad_wall : Extent → List Node → List WrittenWall → Option Refusal
 first_bad_wall a before [] = None
 first_bad_wall a before (w ∷ ws) =
-    if is_bad_wall a before w.node then Some (on_line w.line kind.BadWall) else first_bad_wall a (before ++ w.node ∷ []) ws
+    if is_bad_wall a before w.node then Some (on_line w.line kind.BadWall)
+    else first_bad_wall a (before ++ w.node ∷ []) ws
 
 -- the rule that the next amoebot breaks beside those that are there
 abbrev pub broken : Config → WrittenBot → Option Refusal
@@ -150,7 +152,8 @@ IsWrittenShape may text vars =
     (λ line. Closed (Then IsAreaLine (λ area. Then (AreWallLines may 0)
     (λ walls. Made (AreBots vars 0) (λ bots. written_shape area walls bots)))) is_end)
 
--- with these maxima of the variables: its frame, what is wrong with it, and the configuration that it stands for
+-- with these maxima of the variables: its frame, what is wrong with it,
+-- and the configuration that it stands for
 module _ (maxes : List ℕ) where
   abbrev pub shape_frame : WrittenShape → Config
   shape_frame s = walled_frame s.area (map written_node s.walls) maxes

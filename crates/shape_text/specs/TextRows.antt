@@ -14,7 +14,8 @@ abbrev pub its_bot : Bot
 its_bot = shape_bot (negsuc 2) (pos 0) (negsuc 3) (pos 0) 5 Minus (1 ∷ 255 ∷ [])
 
 pub record ShapeTextsArePrinted : Type 0 where
-  pub no_amoebot : shape_text (codes "shape") 0 (frame_of eight_by_eight rising) ≡ codes "shape\narea 0 0 8 8\nend\n"
+  pub no_amoebot : shape_text (codes "shape") 0 (frame_of eight_by_eight rising)
+      ≡ codes "shape\narea 0 0 8 8\nend\n"
   pub last_shape : shape_text (codes "final") 2
       (with_these (frame_of (an_area_of (negsuc 4095) (negsuc 0) 128 1) rising)
       (its_bot ∷ shape_bot (pos 12) (negsuc 0) (pos 12) (negsuc 0) 0 Plus [] ∷ []))
@@ -27,6 +28,7 @@ pub record ShapeTextsArePrinted : Type 0 where
   -- walls by their numbers, before the amoebots
   pub walls : shape_text (codes "final") 0
       (with_these
-      (walled_frame eight_by_eight (a_node_of (pos 3) (pos 3) ∷ a_node_of (pos 7) (pos 0) ∷ a_node_of (pos 0) (pos 3) ∷ []) rising)
+      (walled_frame eight_by_eight
+      (a_node_of (pos 3) (pos 3) ∷ a_node_of (pos 7) (pos 0) ∷ a_node_of (pos 0) (pos 3) ∷ []) rising)
       (shape_bot (pos 2) (pos 3) (pos 2) (pos 3) 0 Plus [] ∷ []))
       ≡ codes "final\narea 0 0 8 8\nwall 7 0\nwall 0 3\nwall 3 3\nbot 2 3 2 3 0 +\nend\n"

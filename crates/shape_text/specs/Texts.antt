@@ -1,5 +1,5 @@
--- The texts of the sections `shape` and `final`: the area has a line, and so has each wall, by rising number of its node, and each
--- amoebot, by rising id.
+-- The texts of the sections `shape` and `final`: the area has a line, and so has each wall,
+-- by rising number of its node, and each amoebot, by rising id.
 use Rattle.std.specs.Prelude.{ℕ, List, [], ◌∷◌, ◌++◌, codes, decimal, map}
 use Rattle.std.specs.Fmt.{signed_decimal}
 use Rattle.std.specs.List.{filter_map}

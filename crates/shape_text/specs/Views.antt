@@ -34,20 +34,23 @@ blamed_at (world.BadWall place) = Some (list.Walls, place, kind.BadWall)
 blamed_at (world.OnWall id) = Some (list.Bots, id, kind.OnWall)
 blamed_at world.NoMemory = None
 
--- the shape is refused for the first rule that it breaks, or it is this world; out of memory says nothing
+-- the shape is refused for the first rule that it breaks, or it is this world;
+-- out of memory says nothing
 abbrev pub IsJudged : List ℕ → WrittenShape → Result Config ReadRefusal → Type 0
 IsJudged maxes s (Ok w) = (shape_fault maxes s ≡ None) × (w ≡ stands_for maxes s)
 IsJudged maxes s (Err NoMemory) = Unit {0}
 IsJudged maxes s (Err (Refused r)) = shape_fault maxes s ≡ Some r
 
 -- the list has that place
-abbrev pub HasPlace : List code_wall.WrittenWall → List code_bot.WrittenBot → Option (Listed × ℕ × RefusalKind) → Type 0
+abbrev pub HasPlace : List code_wall.WrittenWall → List code_bot.WrittenBot
+    → Option (Listed × ℕ × RefusalKind) → Type 0
 HasPlace walls bots None = Unit {0}
 HasPlace walls bots (Some (list.Walls, place, k)) = place < length walls
 HasPlace walls bots (Some (list.Bots, place, k)) = place < length bots
 
 -- the refusal names the line of what stands at that place
-abbrev pub BlamedAs : List code_wall.WrittenWall → List code_bot.WrittenBot → Option (Listed × ℕ × RefusalKind) → ReadRefusal → Type 0
+abbrev pub BlamedAs : List code_wall.WrittenWall → List code_bot.WrittenBot
+    → Option (Listed × ℕ × RefusalKind) → ReadRefusal → Type 0
 BlamedAs walls bots None e = e ≡ NoMemory
 BlamedAs walls bots (Some (list.Walls, place, k)) e =
     (w : code_wall.WrittenWall) → slice_get walls place ≡ Some w → e ≡ Refused (on_line w.line k)

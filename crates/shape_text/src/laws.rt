@@ -10,11 +10,14 @@ ghost use Rattle.shape_text.specs.ShapeRows.{ShapesAreRead};
 ghost use Rattle.shape_text.specs.TextRows.{ShapeTextsArePrinted};
 ghost use Rattle.shape_text.specs.WallRows.{WallsAreRead};
 
-/// Of any tokens the grammar of a shape says one thing, and its reader answers that; and so does that of a last shape.
+/// Of any tokens the grammar of a shape says one thing, and its reader answers that;
+/// and so does that of a last shape.
 pub fn shapes_are_decided()
-    ensures exact { (version vars : ℕ) (maxes : List ℕ) → Exact (IsShape version vars maxes) (a_shape version vars maxes) }
+    ensures exact { (version vars : ℕ) (maxes : List ℕ)
+        → Exact (IsShape version vars maxes) (a_shape version vars maxes) }
     ensures decided { (version vars : ℕ) (maxes : List ℕ) → IsDecided (IsShape version vars maxes) }
-    ensures exact_final { (version vars : ℕ) (maxes : List ℕ) → Exact (IsFinal version vars maxes) (a_final version vars maxes) }
+    ensures exact_final { (version vars : ℕ) (maxes : List ℕ)
+        → Exact (IsFinal version vars maxes) (a_final version vars maxes) }
     ensures decided_final { (version vars : ℕ) (maxes : List ℕ) → IsDecided (IsFinal version vars maxes) }
     ensures read { ShapesAreRead }
 {}
@@ -24,7 +27,8 @@ pub fn walls_are_read()
     ensures { WallsAreRead }
 {}
 
-/// A world whose amoebots have 0 past the variables is read back from its text, in a version whose texts may have its walls.
+/// A world whose amoebots have 0 past the variables is read back from its text,
+/// in a version whose texts may have its walls.
 pub fn shapes_read_back()
     ensures { ShapesReadBack }
 {}

@@ -11,8 +11,8 @@ use std::alloc::{AllocError, Global};
 use text_tokens::{Lines, Text};
 use tri_lattice::Area;
 
-/// The section of a shape under the given word: its area, its walls by rising number, and its amoebots by rising id, with the
-/// values of so many variables, at most 8.
+/// The section of a shape under the given word: its area, its walls by rising number,
+/// and its amoebots by rising id, with the values of so many variables, at most 8.
 pub fn print_shape(alloc: Global, word: &str, world: &World, vars: u8) -> Result<Text, NoMemory>
     requires { vars ≤ most_vars }
     ensures { IfOk result (λ text. text ≡ shape_text word.now vars world.now) }
@@ -64,7 +64,8 @@ fn put_walls(lines: &mut Lines, world: &World) -> Result<(), AllocError>
 /// The amoebots, each on a line.
 fn put_bots(lines: &mut Lines, world: &World, vars: u8) -> Result<(), AllocError>
     requires { vars ≤ most_vars }
-    ensures { OnOk result (lines.new ≡ lines.old ++ lines_text (map (bot_line vars) (present world.now.bots))) }
+    ensures { OnOk result (
+        lines.new ≡ lines.old ++ lines_text (map (bot_line vars) (present world.now.bots))) }
 {
     for id in 0..world.bots() {
         lines.begin("bot")?;

@@ -95,7 +95,8 @@ fn read_wall_line(tokens: &mut Tokens<'_>, before: u32) -> Result<WrittenWall, R
 
 /// One more wall, if one comes.
 fn more_wall(tokens: &mut Tokens<'_>, before: u32) -> Result<Option<WrittenWall>, ReadRefusal>
-    ensures reads { Gives (λ o. option_map view.wall_view o) (another spec.is_wall_word (reader.a_wall_line before))
+    ensures reads { Gives (λ o. option_map view.wall_view o)
+        (another spec.is_wall_word (reader.a_wall_line before))
         tokens.old result tokens.new }
     ensures room { IfOk result (λ o. IfSome o (λ _. before < most_walls)) }
 {
@@ -107,7 +108,8 @@ fn more_wall(tokens: &mut Tokens<'_>, before: u32) -> Result<Option<WrittenWall>
 
 /// The walls, where the text may have some.
 fn read_some_walls(alloc: Global, tokens: &mut Tokens<'_>) -> Result<Vec<WrittenWall>, ReadRefusal>
-    ensures reads { Gives (λ v. map view.wall_view v.items) (reader.all_walls true) tokens.old result tokens.new }
+    ensures reads { Gives (λ v. map view.wall_view v.items)
+        (reader.all_walls true) tokens.old result tokens.new }
     ensures few { IfOk result (λ v. vec_len v ≤ most_walls) }
 {
     let mut found = Vec::new(alloc);
@@ -125,7 +127,8 @@ fn read_walls(
     tokens: &mut Tokens<'_>,
     version: u8,
 ) -> Result<Vec<WrittenWall>, ReadRefusal>
-    ensures reads { Gives (λ v. map view.wall_view v.items) (reader.all_walls (part.may_have_walls version)) tokens.old result tokens.new }
+    ensures reads { Gives (λ v. map view.wall_view v.items)
+        (reader.all_walls (part.may_have_walls version)) tokens.old result tokens.new }
     ensures few { IfOk result (λ v. vec_len v ≤ most_walls) }
 {
     if may_have_walls(version) {
@@ -155,7 +158,8 @@ fn more_bot(
     before: u32,
 ) -> Result<Option<WrittenBot>, ReadRefusal>
     requires { vars ≤ most_vars }
-    ensures reads { Gives (λ o. option_map view.bot_view o) (another spec.is_bot (reader.a_bot_line vars before))
+    ensures reads { Gives (λ o. option_map view.bot_view o)
+        (another spec.is_bot (reader.a_bot_line vars before))
         tokens.old result tokens.new }
     ensures room { IfOk result (λ o. IfSome o (λ _. before < most_bots)) }
     ensures plain { IfOk result (λ o. IfSome o (λ b. IsBotInRange b.bot)) }
@@ -172,7 +176,8 @@ fn read_bots(
     vars: u8,
 ) -> Result<Vec<WrittenBot>, ReadRefusal>
     requires { vars ≤ most_vars }
-    ensures reads { Gives (λ v. map view.bot_view v.items) (reader.all_bots vars) tokens.old result tokens.new }
+    ensures reads { Gives (λ v. map view.bot_view v.items)
+        (reader.all_bots vars) tokens.old result tokens.new }
     ensures few { IfOk result (λ v. vec_len v ≤ most_bots) }
     ensures plain { IfOk result (λ v. All (λ b. IsBotInRange b.bot) v.items) }
 {
@@ -193,7 +198,8 @@ fn read_drawing(
     vars: u8,
 ) -> Result<WrittenShape, ReadRefusal>
     requires { vars ≤ most_vars }
-    ensures reads { Gives view.shape (reader.a_drawing (part.may_have_walls version) vars) tokens.old result tokens.new }
+    ensures reads { Gives view.shape
+        (reader.a_drawing (part.may_have_walls version) vars) tokens.old result tokens.new }
     ensures few_walls { IfOk result (λ s. vec_len s.walls ≤ most_walls) }
     ensures few { IfOk result (λ s. vec_len s.bots ≤ most_bots) }
     ensures plain { IfOk result (λ s. All (λ b. IsBotInRange b.bot) s.bots.items) }
@@ -214,7 +220,8 @@ fn read_written(
     vars: u8,
 ) -> Result<WrittenShape, ReadRefusal>
     requires { vars ≤ most_vars }
-    ensures reads { Gives view.shape (reader.a_written_shape (part.may_have_walls version) text.now vars) tokens.old result tokens.new }
+    ensures reads { Gives view.shape
+        (reader.a_written_shape (part.may_have_walls version) text.now vars) tokens.old result tokens.new }
     ensures few_walls { IfOk result (λ s. vec_len s.walls ≤ most_walls) }
     ensures few { IfOk result (λ s. vec_len s.bots ≤ most_bots) }
     ensures plain { IfOk result (λ s. All (λ b. IsBotInRange b.bot) s.bots.items) }
@@ -249,7 +256,8 @@ fn bots_of(alloc: Global, written: &[WrittenBot]) -> Result<Vec<Bot>, ReadRefusa
     Ok(bots)
 }
 
-/// What is refused, by its list and its place there, and for what; `None` where it was out of memory.
+/// What is refused, by its list and its place there, and for what;
+/// `None` where it was out of memory.
 fn blamed(refusal: WorldRefusal) -> Option<(Listed, u32, RefusalKind)>
     ensures { result ≡ view.blamed_at refusal }
 {
@@ -280,7 +288,8 @@ fn refusal_of(refusal: WorldRefusal, walls: &[WrittenWall], bots: &[WrittenBot])
     }
 }
 
-/// The world that a shape stands for, or the first rule that it breaks: first of the walls, then by rising id.
+/// The world that a shape stands for, or the first rule that it breaks: first of the walls,
+/// then by rising id.
 fn world_of(alloc: Global, written: &WrittenShape, maxes: [u8; 8]) -> Result<World, ReadRefusal>
     requires few_walls { vec_len written.now.walls ≤ most_walls }
     requires few { vec_len written.now.bots ≤ most_bots }
@@ -302,7 +311,8 @@ fn world_of(alloc: Global, written: &WrittenShape, maxes: [u8; 8]) -> Result<Wor
     }
 }
 
-/// A shape in a section with this word, up to its `end`, with values for so many variables, and these maxima of all eight.
+/// A shape in a section with this word, up to its `end`, with values for so many variables,
+/// and these maxima of all eight.
 fn read_under(
     alloc: Global,
     tokens: &mut Tokens<'_>,
@@ -312,15 +322,17 @@ fn read_under(
     maxes: [u8; 8],
 ) -> Result<World, ReadRefusal>
     requires { vars ≤ most_vars }
-    ensures reads { Gives (λ c. c) (reader.shape_under (part.may_have_walls version) text.now vars maxes) tokens.old result tokens.new }
+    ensures reads { Gives (λ c. c)
+        (reader.shape_under (part.may_have_walls version) text.now vars maxes) tokens.old result tokens.new }
     ensures few { IfOk result (λ w. length w.bots ≤ most_bots) }
 {
     let written = read_written(alloc, tokens, text, version, vars)?;
     world_of(alloc, &written, maxes)
 }
 
-/// Reads the section `shape` up to its `end`: the world that it stands for, with values for so many variables, at most 8, and
-/// these maxima of all eight. A document of version 1 has no walls; from version 2 on it may have some.
+/// Reads the section `shape` up to its `end`: the world that it stands for,
+/// with values for so many variables, at most 8, and these maxima of all eight.
+/// A document of version 1 has no walls; from version 2 on it may have some.
 pub fn read_shape(
     alloc: Global,
     tokens: &mut Tokens<'_>,

@@ -42,7 +42,8 @@ pub fn is_answer(ended: &Ended, out: &SureSink, status: Status, text: &str) -> b
     ended.status == status && out.whole() && out.bytes() == text.as_bytes()
 }
 
-/// Runs the bytes. The status, the number of entries of the report, if there is one, and the text have to be these.
+/// Runs the bytes.
+/// The status, the number of entries of the report, if there is one, and the text have to be these.
 pub fn check<R: Threads + Wait + Sync>(
     rt: &R,
     alloc: Global,

@@ -28,7 +28,8 @@ pub static DIFFERENT: [Row; 4] = [
     (
         "renew",
         "{OUT_RENEWED}{ONE}\
-        journal\nentry 0 0 0 0 0 expand head 0 spot 3 3 empty to 0 body 0 2 3 2 3 1 + to 3 3 2 3 0 +\nend\n{EXPANDED_FINAL}",
+        journal\nentry 0 0 0 0 0 expand head 0 spot 3 3 empty to 0 \
+        body 0 2 3 2 3 1 + to 3 3 2 3 0 +\nend\n{EXPANDED_FINAL}",
         Differs(0),
         None,
         "differs 0\n",
@@ -63,7 +64,8 @@ pub static DIFFERENT: [Row; 4] = [
 /// The words that go back to the start of a journal.
 pub const TO_START: &[&str] = &["rewind", "0"];
 
-/// The worked example in version 3, which is gone back along to its start, and the same with another old value.
+/// The worked example in version 3, which is gone back along to its start,
+/// and the same with another old value.
 pub static REWOUND: [Row; 2] = [
     (
         "rewind",
@@ -76,7 +78,8 @@ pub static REWOUND: [Row; 2] = [
     (
         "rewind",
         "{OUT_3}{ONE}\
-        journal\nentry 0 0 0 0 0 expand head 0 spot 3 3 empty to 0 body 0 2 3 2 3 1 + to 3 3 2 3 0 +\nend\n{EXPANDED_FINAL}",
+        journal\nentry 0 0 0 0 0 expand head 0 spot 3 3 empty to 0 \
+        body 0 2 3 2 3 1 + to 3 3 2 3 0 +\nend\n{EXPANDED_FINAL}",
         Differs(0),
         None,
         "differs 0\n",

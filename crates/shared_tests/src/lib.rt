@@ -1,4 +1,5 @@
-//! Rows of tests through the top call: pieces of documents with what is written of them, and calls that compare.
+//! Rows of tests through the top call: pieces of documents with what is written of them,
+//! and calls that compare.
 #![tactic(auto)]
 
 pub mod calls;

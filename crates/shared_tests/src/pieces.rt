@@ -52,7 +52,8 @@ static PROGRAMS: [Piece; 15] = [
     // It goes out and comes back, so each turn is done where nobody is in its way.
     (
         "OUT_AND_BACK",
-        "amoebot 1\nprogram\naction out when contracted move expand head 0\naction back when expanded move contract head\n\
+        "amoebot 1\nprogram\naction out when contracted move expand head 0\n\
+        action back when expanded move contract head\n\
         end\n",
     ),
     // An amoebot marks itself. Then the same in version 2.
@@ -80,10 +81,12 @@ static PROGRAMS: [Piece; 15] = [
         "UNGUARDED",
         "amoebot 1\nprogram\nguard off\naction a when expanded move contract tail\nend\n",
     ),
-    // The guard is on, and there are eight variables. An expanded amoebot makes a note once, and then it contracts.
+    // The guard is on, and there are eight variables.
+    // An expanded amoebot makes a note once, and then it contracts.
     (
         "GUARDED_EIGHT",
-        "amoebot 1\nprogram\nguard on\nvar a 1\nvar b 2\nvar c 3\nvar d 4\nvar e 5\nvar f 6\nvar g 7\nvar h 8\n\
+        "amoebot 1\nprogram\nguard on\nvar a 1\nvar b 2\n\
+        var c 3\nvar d 4\nvar e 5\nvar f 6\nvar g 7\nvar h 8\n\
         action note\nwhen expanded and h = 7\ndo a := 1 ; h := g + 2\nmove none\n\
         action back\nwhen expanded\ndo a := 0\nmove contract tail\nend\n",
     ),
@@ -100,7 +103,8 @@ static PROGRAMS: [Piece; 15] = [
         "ERODE",
         "amoebot 1\nprogram\nguard off\nvar cand 1\nvar leader 1\naction lead\n\
         when cand = 1 and leader = 0 and not any p in ports ( p . cand = 1 )\ndo leader := 1\naction erode\n\
-        when cand = 1 and count p in ports ( p . cand = 1\n and not ( linked turn p 1 and turn p 1 . cand = 1 ) ) = 1\n\
+        when cand = 1 and count p in ports ( p . cand = 1\n and \
+        not ( linked turn p 1 and turn p 1 . cand = 1 ) ) = 1\n\
         do cand := 0\nend\n",
     ),
     // The leader election as it is shipped.
@@ -138,13 +142,15 @@ static STARTS: [Piece; 12] = [
     // A ring of six candidates round an empty node.
     (
         "SIX",
-        "shape\narea 0 0 8 8\nbot 4 3 4 3 0 + 1 0\nbot 3 4 3 4 0 + 1 0\nbot 2 4 2 4 0 + 1 0\nbot 2 3 2 3 0 + 1 0\n\
+        "shape\narea 0 0 8 8\nbot 4 3 4 3 0 + 1 0\n\
+        bot 3 4 3 4 0 + 1 0\nbot 2 4 2 4 0 + 1 0\nbot 2 3 2 3 0 + 1 0\n\
         bot 3 2 3 2 0 + 1 0\nbot 4 2 4 2 0 + 1 0\nend\n",
     ),
     // A candidate, and the ring of six round it.
     (
         "SEVEN",
-        "shape\narea 0 0 8 8\nbot 3 3 3 3 0 + 1 0\nbot 4 3 4 3 0 + 1 0\nbot 3 4 3 4 0 + 1 0\nbot 2 4 2 4 0 + 1 0\n\
+        "shape\narea 0 0 8 8\nbot 3 3 3 3 0 + 1 0\n\
+        bot 4 3 4 3 0 + 1 0\nbot 3 4 3 4 0 + 1 0\nbot 2 4 2 4 0 + 1 0\n\
         bot 2 3 2 3 0 + 1 0\nbot 3 2 3 2 0 + 1 0\nbot 4 2 4 2 0 + 1 0\nend\n",
     ),
     ("ONE_TURN", "lists\nturns 1\nlist 0\nend\n"),
@@ -222,7 +228,8 @@ static WRITTEN: [Piece; 20] = [
         "DRAGGED_JOURNAL_3",
         "journal\n\
         entry 0 0 0 0 0 pull tail 3 spot 2 3 0 to 1 body 0 3 3 2 3 0 + 0 to 3 3 3 3 0 + 0 \
-        body 1 1 3 1 3 0 + 0 to 2 3 1 3 0 + 0\nentry 1 1 1 1 1 none body 1 2 3 1 3 0 + 0 to 2 3 1 3 0 + 1\nend\n",
+        body 1 1 3 1 3 0 + 0 to 2 3 1 3 0 + 0\n\
+        entry 1 1 1 1 1 none body 1 2 3 1 3 0 + 0 to 2 3 1 3 0 + 1\nend\n",
     ),
     // The two entries, the other way round: an amoebot makes a note of what has not happened.
     (
@@ -236,7 +243,8 @@ static WRITTEN: [Piece; 20] = [
     ),
     (
         "SIX_FINAL",
-        "final\narea 0 0 8 8\nbot 4 3 4 3 0 + 1 0\nbot 3 4 3 4 0 + 1 0\nbot 2 4 2 4 0 + 1 0\nbot 2 3 2 3 0 + 1 0\n\
+        "final\narea 0 0 8 8\nbot 4 3 4 3 0 + 1 0\n\
+        bot 3 4 3 4 0 + 1 0\nbot 2 4 2 4 0 + 1 0\nbot 2 3 2 3 0 + 1 0\n\
         bot 3 2 3 2 0 + 1 0\nbot 4 2 4 2 0 + 1 0\nend\n",
     ),
     // Each of the ring gives up, and then the one in the middle leads.
@@ -249,7 +257,8 @@ static WRITTEN: [Piece; 20] = [
     ),
     (
         "SEVEN_FINAL",
-        "final\narea 0 0 8 8\nbot 3 3 3 3 0 + 1 1\nbot 4 3 4 3 0 + 0 0\nbot 3 4 3 4 0 + 0 0\nbot 2 4 2 4 0 + 0 0\n\
+        "final\narea 0 0 8 8\nbot 3 3 3 3 0 + 1 1\n\
+        bot 4 3 4 3 0 + 0 0\nbot 3 4 3 4 0 + 0 0\nbot 2 4 2 4 0 + 0 0\n\
         bot 2 3 2 3 0 + 0 0\nbot 3 2 3 2 0 + 0 0\nbot 4 2 4 2 0 + 0 0\nend\n",
     ),
 ];

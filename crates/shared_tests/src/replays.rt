@@ -95,7 +95,8 @@ fn check_replay<R: Threads + Wait + Sync>(
     )
 }
 
-/// Runs the document, whose last byte is LF, by a word, with this gate. With the text behind it the document agrees under `replay`.
+/// Runs the document, whose last byte is LF, by a word, with this gate.
+/// With the text behind it the document agrees under `replay`.
 pub fn run_and_replay<R: Threads + Wait + Sync, G: Gate>(
     rt: &R,
     alloc: Global,

@@ -1,6 +1,7 @@
--- Support of tests, and no part of the model: a decider that sets variable 0 from 0 to 1 and is idle elsewhere, with the proofs that it
--- keeps the laws of deciders. A decider gives its laws as ghost items, which may cite no term of the crate's own proofs/, so they stand
--- here; the tests of the crates above decide by it too.
+-- Support of tests, and no part of the model: a decider that sets variable 0 from 0 to 1
+-- and is idle elsewhere, with the proofs that it keeps the laws of deciders.
+-- A decider gives its laws as ghost items, which may cite no term of the crate's own proofs/,
+-- so they stand here; the tests of the crates above decide by it too.
 use Rattle.std.proofs.Common.{◌≡◌, ◌≢◌, ◌&&◌, ℕ, zero, suc, List, [], ◌∷◌, length, Bool, true, false, nat_eq, ap, sym, ◌∙◌, refl, subst, inl, inr, arith, Option, Some, None}
 use Rattle.std.specs.Prelude.{is_some, nat_le, slice_index, slice_set, if◌then◌else◌}
 use Rattle.std.specs.List.{All, Contains}
@@ -88,7 +89,8 @@ module _ (c : Config) (i : ℕ) (b : Bot) (m : Marking c i b) where
   -- nobody moves
   alike : (v : Node) (j : ℕ) → covers (bot_at (after c i b) j) v ≡ covers (bot_at c j) v
   alike v j = elim (cases_eq j i) [
-    | inl e ↦ ap (λ o. covers o v) (ap (bot_at (after c i b)) e ∙ at_own) ∙ sym (ap (λ o. covers o v) (ap (bot_at c) e ∙ m.there))
+    | inl e ↦ ap (λ o. covers o v) (ap (bot_at (after c i b)) e ∙ at_own)
+        ∙ sym (ap (λ o. covers o v) (ap (bot_at c) e ∙ m.there))
     | inr ne ↦ ap (λ o. covers o v) (at_other j ne)
   ]
 
@@ -119,7 +121,8 @@ module _ (c : Config) (i : ℕ) (b : Bot) (m : Marking c i b) where
 
   -- each other cell stays
   stays : (n : CellName) → n ≢ name.Body i → value (after c i b) n ≡ value c n
-  stays (name.Spot v) ne = ap (λ o. Some (cell.Spot o)) (occupant_same (after c i b) c v after_valid m.valid (alike v))
+  stays (name.Spot v) ne =
+      ap (λ o. Some (cell.Spot o)) (occupant_same (after c i b) c v after_valid m.valid (alike v))
   stays (name.Body j) ne = ap (option_map cell.Body) (at_other j (λ e. ne (ap name.Body e)))
 
   -- so the patch leads there
@@ -130,7 +133,8 @@ module _ (c : Config) (i : ℕ) (b : Bot) (m : Marking c i b) where
       rest = refl;
       size = length-set c.bots i (Some (marked_bot b));
       ids = λ j. elim (cases_eq j i) [
-        | inl e ↦ ap is_some (ap (bot_at (after c i b)) e ∙ at_own) ∙ sym (ap is_some (ap (bot_at c) e ∙ m.there))
+        | inl e ↦ ap is_some (ap (bot_at (after c i b)) e ∙ at_own)
+            ∙ sym (ap is_some (ap (bot_at c) e ∙ m.there))
         | inr ne ↦ ap is_some (at_other j ne)
       ];
     };
@@ -167,7 +171,8 @@ module _ (c : Config) (i : ℕ) (b : Bot) (m : Marking c i b) where
   found : HasOldValues c (marks i b)
   found =
       let P : CellChange → Type 0 = λ t. value c t.0 ≡ Some t.1 in
-      All-cons P (name.Body i, cell.Body b, cell.Body (marked_bot b)) [] (ap (option_map cell.Body) m.there) (All-nil P)
+      All-cons P (name.Body i, cell.Body b, cell.Body (marked_bot b))
+      [] (ap (option_map cell.Body) m.there) (All-nil P)
 
   lawful : IsLawfulPatch c i (marks i b)
   lawful = record {
@@ -180,7 +185,8 @@ module _ (c : Config) (i : ℕ) (b : Bot) (m : Marking c i b) where
 
 -- where it decides a change, it may, and the change's patch is this one
 change_is : (i : ℕ) (b : Bot) (t : Bool) (change : Change)
-    → (if t then verdict.Change (record { action = 0; moved = moved.None; patch = marks i b }) else verdict.Idle)
+    → (if t then verdict.Change (record { action = 0; moved = moved.None; patch = marks i b })
+    else verdict.Idle)
     ≡ verdict.Change change
     → (t ≡ true) × (marks i b ≡ change.patch)
 change_is i b true change e = (refl, ap patch_of e)
@@ -201,9 +207,14 @@ is_marking : (c : Config) (i : ℕ) (change : Change) → DecidesChange marking 
 is_marking c i change changes =
     let own = there_is (bot_at c i) changes.there in
     let b = own.0 in
-    let told = change_is i b (may_mark c.maxes b) change (sym (ap (marking_of c.maxes i) (alone_own c i b own.1)) ∙ changes.decided) in
+    let told = change_is i b (may_mark c.maxes b) change
+    (sym (ap (marking_of c.maxes i) (alone_own c i b own.1)) ∙ changes.decided) in
     let parts = and_parts _ _ told.0 in
-    record { bot = b; by = record { valid = changes.valid; there = own.1; was = eqb-true _ _ parts.0; may = parts.1 }; patch = told.1 }
+    record {
+      bot = b;
+      by = record { valid = changes.valid; there = own.1; was = eqb-true _ _ parts.0; may = parts.1 };
+      patch = told.1;
+    }
 
 -- it keeps the laws of deciders
 pub marking_is_lawful : IsLawful marking

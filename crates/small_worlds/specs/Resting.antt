@@ -1,5 +1,6 @@
--- Programs that change nothing, with the proofs that they keep the laws of deciders. A decider gives its laws as ghost items, which may
--- cite no term of the crate's own proofs/, so they stand here.
+-- Programs that change nothing, with the proofs that they keep the laws of deciders.
+-- A decider gives its laws as ghost items, which may cite no term of the crate's own proofs/,
+-- so they stand here.
 use Rattle.std.proofs.Common.{subst}
 use Rattle.amoebot_state.specs.declared.verdict.Failure.TheVariants.{Edge}
 use Rattle.amoebot_state.specs.declared.verdict.Verdict.{Verdict}

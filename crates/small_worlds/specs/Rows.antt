@@ -1,4 +1,5 @@
--- A row of three nodes with two amoebots side by side, each of which is to expand to the right in a turn of its own caller.
+-- A row of three nodes with two amoebots side by side, each of which is to expand
+-- to the right in a turn of its own caller.
 use Rattle.std.specs.Prelude.{ℕ, List, [], ◌∷◌, pos, reverse}
 use Rattle.std.specs.declared.option.Option.TheVariants.{None, Some}
 use Rattle.tri_lattice.specs.declared.node.Node.{Node}
@@ -49,8 +50,10 @@ two_beside =
       lists = record { turns = 1; ids = (0 ∷ []) ∷ (1 ∷ []) ∷ [] };
     }
 
--- Caller 1 wins body 1 and (1, 0); caller 0 wins body 0 and (0, 0), and finds (1, 0) held. Caller 1 wins (2, 0). Caller 0 reads the
--- journal's length and frees its two cells. Caller 1 wins (0, 0) and body 0, takes the journal, commits, and frees its five cells
+-- Caller 1 wins body 1 and (1, 0); caller 0 wins body 0 and (0, 0), and finds (1, 0) held.
+-- Caller 1 wins (2, 0).
+-- Caller 0 reads the journal's length and frees its two cells.
+-- Caller 1 wins (0, 0) and body 0, takes the journal, commits, and frees its five cells
 abbrev pub interleaving : List ℕ
 interleaving = 1 ∷ 1 ∷ 0 ∷ 0 ∷ 0 ∷ 1 ∷ 0 ∷ 0 ∷ 0 ∷ 1 ∷ 1 ∷ 1 ∷ 1 ∷ 1 ∷ 1 ∷ 1 ∷ 1 ∷ 1 ∷ []
 
@@ -72,7 +75,8 @@ abbrev pub one_refused : Report
 one_refused = record {
   world = row_with (bot_in_row 2 1);
   journal = record { first = row_with (bot_in_row 1 1); entries = expanded ∷ []; spare = 0 };
-  turns = record { turns = 1; marks = (mark.Busy (name.Spot (node 1)) 1 0 1 0 ∷ []) ∷ (mark.Done 0 ∷ []) ∷ [] };
+  turns =
+      record { turns = 1; marks = (mark.Busy (name.Spot (node 1)) 1 0 1 0 ∷ []) ∷ (mark.Done 0 ∷ []) ∷ [] };
 }
 
 pub record SmallInterleaving : Type 0 where

@@ -1,4 +1,5 @@
--- A row of five nodes with two amoebots far apart, each of which expands to the right in a turn of its own caller; commits draw tickets.
+-- A row of five nodes with two amoebots far apart, each of which expands to the right in a turn
+-- of its own caller; commits draw tickets.
 use Rattle.std.specs.Prelude.{◌≡◌, ℕ, List, [], ◌∷◌, pos, reverse}
 use Rattle.std.specs.declared.option.Option.TheVariants.{None, Some}
 use Rattle.tri_lattice.specs.Extent.{Extent}
@@ -35,12 +36,14 @@ far_apart =
     setup (expansion_verdict_shown to_the_right) (long_row (bot_in_row 0 0) (bot_in_row 3 3))
     (record { turns = 1; ids = (0 ∷ []) ∷ (1 ∷ []) ∷ [] })
 
--- Caller 0 wins body 0, (0, 0) and (1, 0); caller 1 wins body 1, (3, 0), (4, 0) and (2, 0). Caller 1 commits first, in one step, and
--- then caller 0. Caller 1 frees its four cells, and caller 0 its three
+-- Caller 0 wins body 0, (0, 0) and (1, 0); caller 1 wins body 1, (3, 0), (4, 0) and (2, 0).
+-- Caller 1 commits first, in one step, and then caller 0.
+-- Caller 1 frees its four cells, and caller 0 its three
 abbrev pub ticket_steps : List ℕ
 ticket_steps = 0 ∷ 0 ∷ 0 ∷ 1 ∷ 1 ∷ 1 ∷ 1 ∷ 1 ∷ 0 ∷ 1 ∷ 1 ∷ 1 ∷ 1 ∷ 0 ∷ 0 ∷ 0 ∷ []
 
--- the entry of a caller's only turn, on the amoebot with the caller's number, which stood on a node and has its head on the next one
+-- the entry of a caller's only turn, on the amoebot with the caller's number,
+-- which stood on a node and has its head on the next one
 abbrev pub far_entry : ℕ → ℕ → ℕ → Entry
 far_entry c tail head =
     record {

@@ -4,7 +4,8 @@ ghost use Rattle.small_worlds.specs.Rows.{SmallInterleaving};
 ghost use Rattle.small_worlds.specs.Tickets.{SmallTickets};
 ghost use Rattle.small_worlds.specs.Turns.{SmallSerialTurns};
 
-/// A small interleaving of two callers whose zones meet, with the report that it leaves: one turn is Busy, the other Done.
+/// A small interleaving of two callers whose zones meet, with the report that it leaves:
+/// one turn is Busy, the other Done.
 pub fn small_interleaving()
     ensures { SmallInterleaving }
 {}
@@ -14,8 +15,8 @@ pub fn small_serial_turns()
     ensures { SmallSerialTurns }
 {}
 
-/// Two callers far apart whose commits draw tickets, with the report that they leave: both turns are Done, and the journal is the merge of
-/// the callers' own lists.
+/// Two callers far apart whose commits draw tickets, with the report that they leave:
+/// both turns are Done, and the journal is the merge of the callers' own lists.
 pub fn small_tickets()
     ensures { SmallTickets }
 {}

@@ -1,5 +1,5 @@
-//! Small worlds, with programs and lists of turns, for the tests and the examples of other crates; and what some steps leave of a row of
-//! three or five nodes, computed.
+//! Small worlds, with programs and lists of turns, for the tests and the examples of other crates;
+//! and what some steps leave of a row of three or five nodes, computed.
 #![tactic(auto)]
 
 mod laws;

@@ -34,7 +34,8 @@ impl Decider for Marker {
     ghost is_lawful = { λ _. marking_is_lawful };
 }
 
-/// The program of one action, whose guard is that the amoebot is contracted, and which expands it through a port.
+/// The program of one action, whose guard is that the amoebot is contracted,
+/// and which expands it through a port.
 pub struct Expander {
     pub port: Port,
 }

@@ -3,9 +3,9 @@ use claim_core::{Mark, Marks};
 use std::sync::atomic::{AtomicBool, AtomicU64, Ordering};
 use std::thread;
 
-/// A gate that holds some callers in their first turn, with a zone claimed and nothing committed. Each waits
-/// until every other caller has come in its last turn, and then for a while. Or its looks are used up, and
-/// then it has missed them.
+/// A gate that holds some callers in their first turn, with a zone claimed and nothing committed.
+/// Each waits until every other caller has come in its last turn, and then for a while.
+/// Or its looks are used up, and then it has missed them.
 #[derive(Drop)]
 pub struct LateGate {
     held: u8,
@@ -17,8 +17,8 @@ pub struct LateGate {
 }
 
 impl LateGate {
-    /// Holds the callers below `held`, until so many others have come in turn `last`. Then these callers let
-    /// other threads go first so many times, in which the others can end.
+    /// Holds the callers below `held`, until so many others have come in turn `last`.
+    /// Then these callers let other threads go first so many times, in which the others can end.
     pub fn new(held: u8, others: u8, last: u32, times: u32) -> LateGate {
         LateGate {
             held,
@@ -64,8 +64,8 @@ impl Gate for LateGate {
     }
 }
 
-/// Whether each of four callers has so many turns, all Done, and those of caller 0 come behind all entries of
-/// the others but the last of each.
+/// Whether each of four callers has so many turns, all Done,
+/// and those of caller 0 come behind all entries of the others but the last of each.
 pub fn is_late(marks: &Marks, turns: u32) -> bool {
     let least = turns.saturating_sub(1).saturating_mul(3);
     marks.callers() == 4

@@ -4,8 +4,10 @@ use std::test::Fail;
 /// The name of a piece, and its text.
 pub type Piece = (&'static str, &'static str);
 
-/// The text of a template, in which `{NAME}` stands for a piece, and `{NUMBER:TEXT}` for a text so many times. Fails where there is no
-/// piece of that name, where a bracket is left open, or where memory runs out.
+/// The text of a template, in which `{NAME}` stands for a piece,
+/// and `{NUMBER:TEXT}` for a text so many times.
+/// Fails where there is no piece of that name, where a bracket is left open,
+/// or where memory runs out.
 pub fn text_of(alloc: Global, template: &str, pieces: &[Piece]) -> Result<String, Fail> {
     let mut text = String::new(alloc);
     let mut parts = template.split('{');

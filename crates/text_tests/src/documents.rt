@@ -17,7 +17,8 @@ use std::process::Abort;
 use std::test::Fail;
 use text_tokens::{ReadRefusal, Refusal, RefusalKind, TokenKind, Tokens};
 
-/// How many entries with old values a document has, and how many without, each -1 where it has no such journal.
+/// How many entries with old values a document has, and how many without,
+/// each -1 where it has no such journal.
 fn entries_of(found: &Sections) -> [i64; 2] {
     let full = match found.entries() {
         Some(entries) => entries.entries().len() as i64,
@@ -80,7 +81,8 @@ fn answer_from(alloc: Global, bytes: &[u8], form: Form, least: u8) -> Result<Exp
     }
 }
 
-/// How many entries of each kind a document has, or its first fault, where it is to be of a least version.
+/// How many entries of each kind a document has, or its first fault,
+/// where it is to be of a least version.
 fn valued_answer(
     alloc: Global,
     bytes: &[u8],
@@ -108,7 +110,8 @@ fn walls_of(world: &World) -> i64 {
     walls
 }
 
-/// How many amoebots and walls the shape of a document has, and how many walls its last shape; or its first fault.
+/// How many amoebots and walls the shape of a document has, and how many walls its last shape;
+/// or its first fault.
 fn walled_answer(
     alloc: Global,
     bytes: &[u8],
@@ -310,7 +313,8 @@ fn a_journal_with_old_values_has_no_more(rt: HostRuntime) -> Result<(), Fail> {
     have_entries(&rt, rt.alloc(), "{HEAD_3}", &ONE_ENTRY_TOO_MANY)
 }
 
-/// What is refused of the text before each byte of these lines, and that the whole text is a document.
+/// What is refused of the text before each byte of these lines,
+/// and that the whole text is a document.
 fn are_cut(rt: &impl Abort, alloc: Global, lines: &[(&str, &str)]) -> Result<(), AllocError> {
     let mut text: Vec<u8> = Vec::new(alloc);
     let mut line = 1u32;

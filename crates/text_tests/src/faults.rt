@@ -231,7 +231,8 @@ pub static TWO_FAULTS: [Row; 46] = [
     ),
 ];
 
-/// A bad byte in place of each word that may begin a section or does, and of the one behind the last `end`.
+/// A bad byte in place of each word that may begin a section or does,
+/// and of the one behind the last `end`.
 pub static BAD_BYTES: [Row; 14] = [
     (Replay, "$", Err((1, BadByte))),
     (Replay, "{HEAD}$", Err((2, BadByte))),

@@ -52,12 +52,14 @@ fn read_plain_text(
     Ok(entries)
 }
 
-/// The first fault of a text of a journal without old values, of 3 amoebots, 2 actions and 1 variable.
+/// The first fault of a text of a journal without old values, of 3 amoebots,
+/// 2 actions and 1 variable.
 fn plain_fault(alloc: Global, text: &[u8]) -> Option<ReadRefusal> {
     read_plain_text(alloc, text, 3, 2, 1).err()
 }
 
-/// The first fault of a text of a journal with old values or without them, of 1 amoebot, 1 action and no variable.
+/// The first fault of a text of a journal with old values or without them, of 1 amoebot,
+/// 1 action and no variable.
 fn fault_by(alloc: Global, text: &[u8], old: bool) -> Option<ReadRefusal> {
     if old {
         read_text(alloc, text, 1, 1, 0).err()
@@ -89,7 +91,8 @@ fn all_tell(entries: &[Entry], plain: &[PlainEntry]) -> bool {
     true
 }
 
-/// Whether a text with old values is read and printed as it was, and printed without them as the other one, which is read so.
+/// Whether a text with old values is read and printed as it was,
+/// and printed without them as the other one, which is read so.
 fn is_kept(alloc: Global, text: &[u8], plain: &[u8], bots: u16, actions: u8, vars: u8) -> bool
     requires { vars ≤ most_vars }
 {
@@ -108,18 +111,21 @@ fn is_kept(alloc: Global, text: &[u8], plain: &[u8], bots: u16, actions: u8, var
     printed.bytes() == text && bare.bytes() == plain && all_tell(read.entries(), without.entries())
 }
 
-/// Journals with old values and the same without them; the numbers of amoebots, actions and variables.
+/// Journals with old values and the same without them; the numbers of amoebots,
+/// actions and variables.
 static JOURNALS: [(&[u8], &[u8], u16, u8, u8); 13] = [
     (b"journal\nend\n", b"journal\nend\n", 0, 0, 0),
     (
-        b"journal\nentry 0 0 0 0 0 expand head 0 spot 3 3 empty to 0 body 0 2 3 2 3 0 + to 3 3 2 3 0 +\nend\n",
+        b"journal\nentry 0 0 0 0 0 expand head 0 spot 3 3 empty to 0 \
+        body 0 2 3 2 3 0 + to 3 3 2 3 0 +\nend\n",
         b"journal\nentry 0 0 0 0 0 expand head 0 spot 3 3 0 body 0 3 3 2 3 0 +\nend\n",
         1,
         1,
         0,
     ),
     (
-        b"journal\nentry 0 0 0 0 0 expand head 1 spot 2 2 empty to 0 body 0 2 3 2 3 5 - to 2 2 2 3 5 -\nend\n",
+        b"journal\nentry 0 0 0 0 0 expand head 1 spot 2 2 empty to 0 \
+        body 0 2 3 2 3 5 - to 2 2 2 3 5 -\nend\n",
         b"journal\nentry 0 0 0 0 0 expand head 1 spot 2 2 0 body 0 2 2 2 3 5 -\nend\n",
         1,
         1,
@@ -142,7 +148,8 @@ static JOURNALS: [(&[u8], &[u8], u16, u8, u8); 13] = [
         0,
     ),
     (
-        b"journal\nentry 0 0 0 0 0 contract tail spot 2 3 0 to empty body 0 3 3 2 3 0 + to 3 3 3 3 0 +\nend\n",
+        b"journal\nentry 0 0 0 0 0 contract tail spot 2 3 0 to empty \
+        body 0 3 3 2 3 0 + to 3 3 3 3 0 +\nend\n",
         b"journal\nentry 0 0 0 0 0 contract tail spot 2 3 empty body 0 3 3 3 3 0 +\nend\n",
         2,
         1,
@@ -158,7 +165,8 @@ static JOURNALS: [(&[u8], &[u8], u16, u8, u8); 13] = [
     (
         b"journal\nentry 0 0 0 0 0 none body 0 2 3 2 3 0 + 0 to 2 3 2 3 0 + 1\n\
             entry 1 1 1 1 0 none body 1 3 3 3 3 0 + 0 to 3 3 3 3 0 + 1\nend\n",
-        b"journal\nentry 0 0 0 0 0 none body 0 2 3 2 3 0 + 1\nentry 1 1 1 1 0 none body 1 3 3 3 3 0 + 1\nend\n",
+        b"journal\nentry 0 0 0 0 0 none body 0 2 3 2 3 0 + 1\n\
+        entry 1 1 1 1 0 none body 1 3 3 3 3 0 + 1\nend\n",
         2,
         1,
         1,
@@ -189,7 +197,8 @@ static JOURNALS: [(&[u8], &[u8], u16, u8, u8); 13] = [
             entry 0 15 65535 4095 31 contract head spot -9999 9999 4095 to empty spot 0 -1 empty to 4095 \
             body 4095 9999 -9999 9999 9999 0 + to -9999 -9999 9999 9999 5 -\nend\n",
         b"journal\n\
-            entry 0 15 65535 4095 31 contract head spot -9999 9999 empty spot 0 -1 4095 body 4095 -9999 -9999 9999 9999 5 -\n\
+            entry 0 15 65535 4095 31 contract head spot -9999 9999 empty \
+            spot 0 -1 4095 body 4095 -9999 -9999 9999 9999 5 -\n\
             end\n",
         4096,
         32,
@@ -666,8 +675,9 @@ fn the_first_part_of_a_journal_is_none(rt: HostRuntime) {
 
 #[test]
 fn nor_is_the_first_part_of_one_with_old_values(rt: HostRuntime) {
-    let text =
-        b"journal\nentry 0 0 0 0 0 none spot 3 3 empty to 0 body 0 2 3 2 3 0 + to 3 3 2 3 0 +\nend".as_slice();
+    let text = b"journal\nentry 0 0 0 0 0 none spot 3 3 empty to 0 \
+        body 0 2 3 2 3 0 + to 3 3 2 3 0 +\nend"
+        .as_slice();
     assert!(rt; fault_by(rt.alloc(), text, true).is_none());
     for len in 0..text.len() {
         assert!(rt; fault_by(rt.alloc(), &text[..len], true).is_some());

@@ -1,4 +1,5 @@
-//! Documents that are to be of a least version or a later one: what they have, or their first fault.
+//! Documents that are to be of a least version or a later one: what they have,
+//! or their first fault.
 
 use crate::pieces::Expected;
 use shape_files::Form;
@@ -8,7 +9,8 @@ use text_tokens::RefusalKind::{
     WrongSection,
 };
 
-/// The least version that a document may be of, its form, the template of the document, and what is said of it.
+/// The least version that a document may be of, its form, the template of the document,
+/// and what is said of it.
 pub type LeastRow = (u8, Form, &'static str, Expected);
 
 /// Documents without a fault but their version, and such with further ones behind it.

@@ -4,7 +4,8 @@ use itoa::Buffer;
 use std::test::Fail;
 use text_tokens::Lines;
 
-/// A text of so many lines, each with a number, is the same bytes put one behind the other in a vector.
+/// A text of so many lines, each with a number, is the same bytes put
+/// one behind the other in a vector.
 #[test]
 fn lines_go_on_behind_their_room(rt: HostRuntime) -> Result<(), Fail> {
     let mut lines = Lines::new(rt.alloc());

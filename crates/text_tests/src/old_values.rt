@@ -1,4 +1,5 @@
-//! Journals with old values and without, by the version of the document: what they have, or their first fault.
+//! Journals with old values and without, by the version of the document: what they have,
+//! or their first fault.
 
 use crate::journals::Journal;
 use shape_files::Form;
@@ -8,8 +9,9 @@ use text_tokens::RefusalKind::{
     BadByte, BadEntry, BadPlace, BadRange, TooMany, Truncated, Unexpected, WordTooLong,
 };
 
-/// The template of a document of a form; how many entries with old values it has, and how many without, each -1 where it has no such
-/// journal; or the line and the kind of its first fault.
+/// The template of a document of a form; how many entries with old values it has,
+/// and how many without, each -1 where it has no such journal;
+/// or the line and the kind of its first fault.
 pub type Valued = (Form, &'static str, Result<[i64; 2], (u32, RefusalKind)>);
 
 /// One entry more than a journal may have.
@@ -25,7 +27,8 @@ pub static OLD_VALUES: [Valued; 74] = [
         "{HEAD_3}{BEGIN}{ENTRY}\n{NODE}\n{BODY}{REST}",
         Ok([1, -1]),
     ),
-    // Old values that were not found, new ones that are not reached, and cells in another order are a matter of the run.
+    // Old values that were not found, new ones that are not reached,
+    // and cells in another order are a matter of the run.
     (
         Replay,
         "{HEAD_3}{BEGIN}{TAKEN}body 0 2 3 2 3 1 + to 3 3 2 3 0 +{REST}",

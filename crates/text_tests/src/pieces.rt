@@ -6,8 +6,8 @@ use std::test::Fail;
 use test_texts::{Piece, text_of};
 use text_tokens::RefusalKind;
 
-/// How many actions, amoebots, callers, steps, entries and last amoebots a document has, each -1 where it lacks the section; or
-/// the line and the kind of its first fault.
+/// How many actions, amoebots, callers, steps, entries and last amoebots a document has,
+/// each -1 where it lacks the section; or the line and the kind of its first fault.
 pub type Expected = Result<[i64; 6], (u32, RefusalKind)>;
 
 /// The template of a document of a form.
@@ -44,7 +44,8 @@ static PIECES: [Piece; 28] = [
     ("JOURNAL", "journal\nend\n"),
     ("FINAL", "final\narea 0 0 8 8\nbot 2 3 2 3 0 +\nend\n"),
     ("TURNS", "turns\nend\n"),
-    // Lines 2 to 9: an action that expands, an amoebot, and the word of the journal. Lines 2 to 10: the same with a variable.
+    // Lines 2 to 9: an action that expands, an amoebot, and the word of the journal.
+    // Lines 2 to 10: the same with a variable.
     (
         "BEGIN",
         "program\naction out when contracted move expand head 0\nend\n\
@@ -75,8 +76,10 @@ static PIECES: [Piece; 28] = [
     // Ten cells on a line.
     (
         "TEN",
-        "spot 1 1 empty to empty spot 1 1 empty to empty spot 1 1 empty to empty spot 1 1 empty to empty spot 1 1 empty to empty \
-     spot 1 1 empty to empty spot 1 1 empty to empty spot 1 1 empty to empty spot 1 1 empty to empty spot 1 1 empty to empty",
+        "spot 1 1 empty to empty spot 1 1 empty to empty \
+        spot 1 1 empty to empty spot 1 1 empty to empty spot 1 1 empty to empty \
+     spot 1 1 empty to empty spot 1 1 empty to empty spot 1 1 empty to empty \
+     spot 1 1 empty to empty spot 1 1 empty to empty",
     ),
     (
         "TEN_OF_1",

@@ -86,9 +86,10 @@ pub static WORKED: [Row; 16] = [
     ),
 ];
 
-/// The lines of a whole document, each with what is refused of the text before each of its bytes: `.` where it is Truncated, `x`
-/// where a word that was cut is Unexpected. It is Truncated behind a whole word but `contract`, and behind a part of a word where a
-/// name may stand.
+/// The lines of a whole document, each with what is refused of the text before each of its bytes:
+/// `.` where it is Truncated, `x` where a word that was cut is Unexpected.
+/// It is Truncated behind a whole word but `contract`, and behind a part
+/// of a word where a name may stand.
 pub static CUTS: [(&str, &str); 12] = [
     ("amoebot 1\n", ".xxxxxx..."),
     ("program\n", ".xxxxxx."),

@@ -184,7 +184,8 @@ fn long_list(alloc: Global, ids: u32, last: u32) -> Result<Text, AllocError> {
     Ok(lines.text())
 }
 
-/// Long lists with their first fault: one more, be it an amoebot's or not, comes before an unknown one.
+/// Long lists with their first fault: one more, be it an amoebot's or not,
+/// comes before an unknown one.
 static LONG_LISTS: [(u32, u32, u32, RefusalKind); 3] = [
     (4095, 3, 4098, BadId),
     (4096, 2, 4099, TooMany),

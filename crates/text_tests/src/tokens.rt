@@ -9,7 +9,8 @@ use text_tokens::TokenKind::{Number, Sign, Word};
 use text_tokens::groups::read_input;
 use text_tokens::{ReadRefusal, Refusal, RefusalKind, Tokens, number, number_up_to, this_token};
 
-/// A text, the line, the kind and the bytes of each of its tokens, and what stands behind the last of them: `Truncated` is the end.
+/// A text, the line, the kind and the bytes of each of its tokens,
+/// and what stands behind the last of them: `Truncated` is the end.
 struct Row {
     text: &'static [u8],
     tokens: &'static str,

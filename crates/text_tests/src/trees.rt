@@ -102,7 +102,8 @@ fn every_sum(alloc: Global) -> Result<Sum, AllocError>
 }
 
 fn inner_is(alloc: Global, cmp: Cmp) -> Result<Guard, AllocError>
-    ensures { IfOk result (λ g. guard_of g ≡ tree.comparison (sum_of_term tree.inner) cmp (sum_of_term tree.inner)) }
+    ensures { IfOk result (λ g.
+        guard_of g ≡ tree.comparison (sum_of_term tree.inner) cmp (sum_of_term tree.inner)) }
 {
     Ok(Guard::Compare(sum(alloc, Term::Inner)?, cmp, sum(alloc, Term::Inner)?))
 }

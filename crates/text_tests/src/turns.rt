@@ -43,7 +43,8 @@ static TURNS: [(&[u8], Option<(u32, RefusalKind)>); 27] = [
         None,
     ),
     (
-        b"turns turn 0 0 busy spot -9999 - 1 by 16 0 5000 place 7 turn 1 1 busy body 5000 by 0 0 0 place 0 end",
+        b"turns turn 0 0 busy spot -9999 - 1 by 16 0 5000 place 7 \
+        turn 1 1 busy body 5000 by 0 0 0 place 0 end",
         None,
     ),
     (
@@ -51,11 +52,13 @@ static TURNS: [(&[u8], Option<(u32, RefusalKind)>); 27] = [
         None,
     ),
     (
-        b"turns turn 0 0 failed occupied 0 turn 0 0 failed not_contracted 0 turn 0 0 failed not_expanded 0 end",
+        b"turns turn 0 0 failed occupied 0 turn 0 0 failed not_contracted 0 \
+        turn 0 0 failed not_expanded 0 end",
         None,
     ),
     (
-        b"turns turn 0 0 failed peer_not_expanded 0 turn 0 0 failed peer_not_contracted 0 turn 0 0 failed edge 0 end",
+        b"turns turn 0 0 failed peer_not_expanded 0 \
+        turn 0 0 failed peer_not_contracted 0 turn 0 0 failed edge 0 end",
         None,
     ),
     (

@@ -7,7 +7,8 @@ use text_tokens::RefusalKind::{
     BadByte, BadRange, BadWall, NotAdjacent, OnWall, OutOfBox, Overlap, Truncated, Unexpected,
 };
 
-/// The template of a document of a form; how many amoebots and walls its shape has, and how many walls its last shape, or -1 without one.
+/// The template of a document of a form; how many amoebots and walls its shape has,
+/// and how many walls its last shape, or -1 without one.
 pub type Walled = (Form, &'static str, Result<[i64; 3], (u32, RefusalKind)>);
 
 /// Documents with walls in an area of 8 by 8 nodes.

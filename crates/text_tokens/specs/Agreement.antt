@@ -1,4 +1,5 @@
--- A grammar of which a token is refused in one text and not in another: all other laws hold of a reader, and it says two things.
+-- A grammar of which a token is refused in one text and not in another:
+-- all other laws hold of a reader, and it says two things.
 use Rattle.std.specs.Prelude.{◌≡◌, List, [], ◌∷◌, ◌++◌, Some, None, Err}
 use Rattle.text_tokens.specs.declared.refusal.Refusal.{Refusal}
 use Rattle.text_tokens.specs.declared.refusal.RefusalKind.TheVariants.{TooMany}
@@ -12,7 +13,8 @@ r0 = record { line = 0; kind = TooMany }
 
 pub data Two : List Symbol → Unit {0} → Type 0 where
   short : (t : Lexeme) → Two (record { token = Some t; fault = Some r0 } ∷ []) tt
-  long : (t u : Lexeme) → Two (record { token = Some t; fault = None } ∷ record { token = Some u; fault = Some r0 } ∷ []) tt
+  long : (t u : Lexeme)
+      → Two (record { token = Some t; fault = None } ∷ record { token = Some u; fault = Some r0 } ∷ []) tt
 
 abbrev pub two : Reader (Unit {0})
 two last [] = Err last

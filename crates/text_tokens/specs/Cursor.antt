@@ -1,4 +1,5 @@
--- What a `Tokens` is: the source, the tokens ahead, and what is wrong behind the last of them where one more is needed.
+-- What a `Tokens` is: the source, the tokens ahead, and what is wrong behind the last
+-- of them where one more is needed.
 use Rattle.std.specs.Prelude.{true, ◌&&◌, ◌+◌, ◌*◌, ◌^◌, ◌≡◌, ◌<◌, ◌≤◌, ◌-◌, ℕ, Bool, false, if◌then◌else◌, List, [], ◌∷◌, length, take, drop, Option, Some, None, Result, Ok, Err}
 use Rattle.std.specs.Str.{bytes_eq}
 use denote.Enum.Bare.{sameb}
@@ -68,7 +69,8 @@ abbrev pub end_by : Refusal → RefusalKind → Result (Unit {0}) Refusal
 end_by last kind.Truncated = Ok tt
 end_by last _ = Err last
 
--- the text ends there; else a token is refused for this, and what is no token for what is wrong with it
+-- the text ends there; else a token is refused for this,
+-- and what is no token for what is wrong with it
 abbrev pub at_end : RefusalKind → Refusal → List Lexeme → Result (Unit {0}) Refusal
 at_end kind last [] = end_by last last.kind
 at_end kind last (l ∷ ls) = Err (record { line = l.line; kind = kind })
@@ -99,7 +101,8 @@ next_passes test (l ∷ ls) = test l
 
 abbrev pub expect_by : (Lexeme → Bool) → List Lexeme → Refusal → Result Token Refusal
 expect_by test [] last = Err last
-expect_by test (l ∷ ls) last = if test l then Ok (token_of l) else Err (record { line = l.line; kind = kind.Unexpected })
+expect_by test (l ∷ ls) last =
+    if test l then Ok (token_of l) else Err (record { line = l.line; kind = kind.Unexpected })
 
 -- the next token if it passes the test, and else why not
 abbrev pub expect : (Lexeme → Bool) → Cursor → Result Token Refusal
@@ -118,7 +121,8 @@ abbrev pub FirstIs : List Lexeme → List ℕ → Type 0
 FirstIs [] bytes = ⊥
 FirstIs (l ∷ ls) bytes = l.text ≡ bytes
 
--- The token is a slice of the source, with the bytes of the next one ahead. They are a token of its kind, and not too many.
+-- The token is a slice of the source, with the bytes of the next one ahead.
+-- They are a token of its kind, and not too many.
 pub record Spells (c : Cursor) (t : Token) : Type 0 where
   pub within : IsSlice c.source t
   pub bytes : FirstIs c.ahead (slice c.source t)

@@ -16,7 +16,8 @@ number_on line text = record { kind = Number; text = text; «from» = 0; line = 
 
 -- on line 1 a group of two pairs, on line 2 one of them, and then what follows
 abbrev pub half_group : List Lexeme → List Lexeme
-half_group rest = word_on 1 (codes "entry") ∷ number_on 1 (codes "2") ∷ word_on 2 (codes "pair") ∷ number_on 2 (codes "7") ∷ rest
+half_group rest = word_on 1 (codes "entry") ∷ number_on 1 (codes "2")
+    ∷ word_on 2 (codes "pair") ∷ number_on 2 (codes "7") ∷ rest
 
 -- a further pair
 abbrev pub pair_on : ℕ → List Lexeme → List Lexeme
@@ -32,7 +33,8 @@ pub record GroupsAreJudged : Type 0 where
   -- before another token it is, and that token is not looked at
   pub judged : IsGroupsFault (half_group (word_on 3 (codes "foo") ∷ [])) (on_line 1 BadEntry)
   pub not_late : IsGroupsFault (half_group (word_on 3 (codes "foo") ∷ [])) (on_line 3 Unexpected) → ⊥
-  -- so it is before the word of a further entry, before `end`, and before a byte that begins no token
+  -- so it is before the word of a further entry, before `end`,
+  -- and before a byte that begins no token
   pub before_entry : IsGroupsFault (half_group (word_on 3 (codes "entry") ∷ [])) (on_line 1 BadEntry)
   pub before_end : IsGroupsFault (half_group (word_on 3 (codes "end") ∷ [])) (on_line 1 BadEntry)
   pub before_byte : IsGroupsFault (half_group []) (on_line 1 BadEntry)

@@ -2,7 +2,8 @@
 --   groups := { group } "end"
 --   group  := "entry" NUMBER { "pair" NUMBER }
 -- Limits: 2 pairs of one group, 9 for the number of a pair.
--- A group whose number is not that of its pairs is refused on its own line, once what stands behind it is no further pair.
+-- A group whose number is not that of its pairs is refused on its own line,
+-- once what stands behind it is no further pair.
 use Rattle.std.specs.Prelude.{ℕ, Bool, ◌==◌, if◌then◌else◌, List, length, Option, Some, None, codes}
 use Rattle.text_tokens.specs.declared.token.TokenKind.TheVariants.{Word}
 use Rattle.text_tokens.specs.declared.refusal.Refusal.{Refusal}

@@ -14,7 +14,8 @@ module _ {A : Type 0} (P : Lang A) (kind : RefusalKind) where
     pub text : IsText P ts a []
     pub ends : last.kind ≡ Truncated
 
-  -- the first fault of an input: one of its text, or else what stands behind it, a token or what is none
+  -- the first fault of an input: one of its text, or else what stands behind it,
+  -- a token or what is none
   pub data IsInputFault (last : Refusal) (ts : List Lexeme) : Refusal → Type 0 where
     within : {r : Refusal} → IsFault P last ts r → IsInputFault last ts r
     trailing : (a : A) (t : Lexeme) (rest : List Lexeme)
@@ -37,8 +38,11 @@ module _ {A : Type 0} (P : Lang A) (kind : RefusalKind) where
   -- a reader of whole inputs answers what the grammar says, and it says nothing else
   pub record ExactInput (reads : Refusal → List Lexeme → Result A Refusal) : Type 0 where
     pub tells : (last : Refusal) (ts : List Lexeme) → TellsInput last ts (reads last ts)
-    pub only : (last : Refusal) (ts : List Lexeme) (r : Result A Refusal) → TellsInput last ts r → reads last ts ≡ r
+    pub only : (last : Refusal) (ts : List Lexeme) (r : Result A Refusal)
+        → TellsInput last ts r → reads last ts ≡ r
 
--- what a grammar says of a whole text: what it stands for, or its first fault, where a token behind it is Trailing
+-- what a grammar says of a whole text: what it stands for, or its first fault,
+-- where a token behind it is Trailing
 abbrev pub Says : {A : Type 0} → Lang A → List ℕ → Result A Refusal → Type 0
-Says P text answer = (ts : List Lexeme) (last : Refusal) → AreTokens text 0 ts last → TellsInput P Trailing last ts answer
+Says P text answer =
+    (ts : List Lexeme) (last : Refusal) → AreTokens text 0 ts last → TellsInput P Trailing last ts answer

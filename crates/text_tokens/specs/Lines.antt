@@ -24,7 +24,8 @@ spaced words = flat_map (λ word. 32 ∷ word) words
 
 -- a line is its first token, each other one after a space, and its end
 abbrev pub LineIsItsTokens : Type 0
-LineIsItsTokens = (word : List ℕ) (words : Words) → line_text (word ∷ words) ≡ word ++ spaced words ++ codes "\n"
+LineIsItsTokens =
+    (word : List ℕ) (words : Words) → line_text (word ∷ words) ≡ word ++ spaced words ++ codes "\n"
 
 -- a section is its first line, those of its items, and its last line
 abbrev pub SectionIsItsLines : Type 0

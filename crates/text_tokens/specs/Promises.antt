@@ -22,7 +22,8 @@ OneReading =
 abbrev pub TokensAreCut : Type 0
 TokensAreCut = (source : List ℕ) → IsAtFront source (at_place source 0 1)
 
--- Each token is a slice of the source with a byte at least, behind the place and behind the tokens before it.
+-- Each token is a slice of the source with a byte at least,
+-- behind the place and behind the tokens before it.
 pub record RisesBy (source : List ℕ) (at : ℕ) (l : Lexeme) (Rest : Type 0) : Type 0 where
   pub behind : at ≤ l.from
   pub some : 1 ≤ length l.text
@@ -34,7 +35,8 @@ Rises source at [] = at ≤ length source
 Rises source at (l ∷ ls) = RisesBy source at l (Rises source (token_end l) ls)
 
 abbrev pub SpansRise : Type 0
-SpansRise = (source : List ℕ) (ls : List Lexeme) (last : Refusal) → AreTokens source 0 ls last → Rises source 0 ls
+SpansRise = (source : List ℕ) (ls : List Lexeme) (last : Refusal)
+    → AreTokens source 0 ls last → Rises source 0 ls
 
 -- ---- small texts
 
@@ -56,7 +58,8 @@ pub record SmallTexts : Type 0 where
       (record { line = 1; kind = Truncated })
   -- a:=b<=1 # c
   pub longest : Reads (codes "a:=b<=1 # c")
-      (word_from 0 1 (codes "a") ∷ sign_from 1 1 (codes ":=") ∷ word_from 3 1 (codes "b") ∷ sign_from 4 1 (codes "<=")
+      (word_from 0 1 (codes "a") ∷ sign_from 1 1 (codes ":=")
+      ∷ word_from 3 1 (codes "b") ∷ sign_from 4 1 (codes "<=")
       ∷ number_from 6 1 (codes "1") ∷ [])
       (record { line = 1; kind = Truncated })
   -- < = with a blank between
@@ -66,10 +69,12 @@ pub record SmallTexts : Type 0 where
   pub lines : Reads (35 ∷ 200 ∷ 10 ∷ 13 ∷ 9 ∷ 97 ∷ 10 ∷ []) (word_from 5 2 (97 ∷ []) ∷ [])
       (record { line = 3; kind = Truncated })
   -- a single : and a single ! begin no token
-  pub colon : Reads (97 ∷ 10 ∷ 58 ∷ 98 ∷ []) (word_from 0 1 (97 ∷ []) ∷ []) (record { line = 2; kind = BadByte })
+  pub colon : Reads (97 ∷ 10 ∷ 58 ∷ 98 ∷ [])
+      (word_from 0 1 (97 ∷ []) ∷ []) (record { line = 2; kind = BadByte })
   pub bang : Reads (33 ∷ []) [] (record { line = 1; kind = BadByte })
   pub high : Reads (195 ∷ []) [] (record { line = 1; kind = BadByte })
-  pub nine : Reads (codes "000000009") (number_from 0 1 (codes "000000009") ∷ []) (record { line = 1; kind = Truncated })
+  pub nine : Reads (codes "000000009") (number_from 0 1 (codes "000000009") ∷ [])
+      (record { line = 1; kind = Truncated })
   pub ten : Reads (codes "0000000009") [] (record { line = 1; kind = WordTooLong })
   pub many : Reads (codes "abcdefghijklmnopqrstuvwx") (word_from 0 1 (codes "abcdefghijklmnopqrstuvwx") ∷ [])
       (record { line = 1; kind = Truncated })

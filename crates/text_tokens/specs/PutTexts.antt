@@ -1,4 +1,5 @@
--- Some texts and faults of the small format whose forms begin alike. Each token stands on a line of its own, and the text ends on line 20.
+-- Some texts and faults of the small format whose forms begin alike.
+-- Each token stands on a line of its own, and the text ends on line 20.
 use Rattle.std.specs.Prelude.{ℕ, true, false, List, [], ◌∷◌, Some, None, codes}
 use Rattle.text_tokens.specs.declared.refusal.Refusal.{Refusal}
 use Rattle.text_tokens.specs.declared.refusal.RefusalKind.TheVariants.{Unexpected, TooMany, Truncated}
@@ -35,20 +36,25 @@ four rest =
 
 pub record PutsAreRead : Type 0 where
   -- a := 1 - 2, and what goes on no further
-  pub own : IsPutText (to_a (digits 3 (codes "1") ∷ op 4 (codes "-") ∷ digits 5 (codes "2") ∷ name_token 6 (codes "b") ∷ []))
+  pub own : IsPutText
+      (to_a (digits 3 (codes "1") ∷ op 4 (codes "-") ∷ digits 5 (codes "2") ∷ name_token 6 (codes "b") ∷ []))
       (a_put None (codes "a") (a_summand false 1 ∷ a_summand true 2 ∷ [])) (name_token 6 (codes "b") ∷ [])
   -- a . b := - 1
   pub others : IsPutText
-      (name_token 1 (codes "a") ∷ op 2 (codes ".") ∷ name_token 3 (codes "b") ∷ op 4 (codes ":=") ∷ op 5 (codes "-")
+      (name_token 1 (codes "a") ∷ op 2 (codes ".")
+      ∷ name_token 3 (codes "b") ∷ op 4 (codes ":=") ∷ op 5 (codes "-")
       ∷ digits 6 (codes "1") ∷ [])
       (a_put (Some (codes "a")) (codes "b") (a_summand true 1 ∷ [])) []
   -- behind a name neither form goes on so, and behind the point a name is needed
   pub neither : IsPutFault (name_token 1 (codes "a") ∷ op 2 (codes ";") ∷ []) (on_line 2 Unexpected)
   pub alone : IsPutFault (name_token 1 (codes "a") ∷ []) (on_line 20 Truncated)
-  pub no_name : IsPutFault (name_token 1 (codes "a") ∷ op 2 (codes ".") ∷ op 3 (codes ":=") ∷ []) (on_line 3 Unexpected)
+  pub no_name : IsPutFault (name_token 1 (codes "a") ∷ op 2 (codes ".") ∷ op 3 (codes ":=") ∷ [])
+      (on_line 3 Unexpected)
   -- a sign needs a number
-  pub no_number : IsPutFault (to_a (digits 3 (codes "1") ∷ op 4 (codes "+") ∷ op 5 (codes "-") ∷ [])) (on_line 5 Unexpected)
+  pub no_number : IsPutFault
+      (to_a (digits 3 (codes "1") ∷ op 4 (codes "+") ∷ op 5 (codes "-") ∷ [])) (on_line 5 Unexpected)
   pub no_more : IsPutFault (to_a (digits 3 (codes "1") ∷ op 4 (codes "+") ∷ [])) (on_line 20 Truncated)
   -- the fifth number, and what is none
   pub fifth : IsPutFault (to_a (four (op 10 (codes "+") ∷ digits 11 (codes "5") ∷ []))) (on_line 11 TooMany)
-  pub no_fifth : IsPutFault (to_a (four (op 10 (codes "+") ∷ name_token 11 (codes "b") ∷ []))) (on_line 11 Unexpected)
+  pub no_fifth : IsPutFault (to_a (four (op 10 (codes "+") ∷ name_token 11 (codes "b") ∷ [])))
+      (on_line 11 Unexpected)

@@ -91,7 +91,8 @@ summand_of minus = numeral no_limit >>= λ n. pure (a_summand minus n)
 unfoldable pub a_put_sum : Reader (List Summand)
 a_put_sum =
     a_put_minus >>= λ minus.
-    chained (summand_of minus) is_put_sign (λ sign room. limited is_number no_limit room (summand_of (is_put_minus sign)))
+    chained (summand_of minus) is_put_sign (λ sign room.
+    limited is_number no_limit room (summand_of (is_put_minus sign)))
     (λ room p. less room) (λ p. 3) (λ p ps. p ∷ ps)
 
 -- what the token behind a name says of the form

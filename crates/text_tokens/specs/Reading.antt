@@ -134,7 +134,8 @@ by_role role p = choose (role_at role p)
 
 -- ---- limits on numbers
 
--- how a token is refused with which one too many begins: of what else may be wrong with it only a level too deep comes before
+-- how a token is refused with which one too many begins:
+-- of what else may be wrong with it only a level too deep comes before
 abbrev pub past_kind : Option RefusalKind → RefusalKind
 past_kind (Some TooDeep) = TooDeep
 past_kind _ = TooMany
@@ -144,7 +145,8 @@ full_at starts over None = refuse
 full_at starts over (Some t) = if starts t then stop (past_kind (over t)) else refuse
 
 -- a part, where so many may come
-unfoldable pub limited : {A : Type 0} → (Lexeme → Bool) → (Lexeme → Option RefusalKind) → ℕ → Reader A → Reader A
+unfoldable pub limited : {A : Type 0} → (Lexeme → Bool)
+    → (Lexeme → Option RefusalKind) → ℕ → Reader A → Reader A
 limited starts over zero p = choose (full_at starts over)
 limited starts over (suc room) p = p
 
@@ -156,13 +158,17 @@ times p zero = pure []
 times p (suc n) = p >>= λ a. times p n >>= λ rest. pure (a ∷ rest)
 
 -- so many elements at most, as long as one begins
-unfoldable pub elements : {A S : Type 0} → (Lexeme → Bool) → (S → Reader A) → (S → A → S) → ℕ → S → Reader (List A)
+unfoldable pub elements : {A S : Type 0} → (Lexeme → Bool)
+    → (S → Reader A) → (S → A → S) → ℕ → S → Reader (List A)
 elements starts element step zero s = pure []
 elements starts element step (suc n) s =
-    either starts (element s >>= λ a. elements starts element step n (step s a) >>= λ rest. pure (a ∷ rest)) (pure [])
+    either starts
+    (element s >>= λ a. elements starts element step n (step s a) >>= λ rest. pure (a ∷ rest)) (pure [])
 
--- Elements as long as one begins, each with the state so far. There are no more of them than tokens.
-unfoldable pub repeated : {A S : Type 0} → (Lexeme → Bool) → (S → Reader A) → (S → A → S) → S → Reader (List A)
+-- Elements as long as one begins, each with the state so far.
+-- There are no more of them than tokens.
+unfoldable pub repeated : {A S : Type 0} → (Lexeme → Bool)
+    → (S → Reader A) → (S → A → S) → S → Reader (List A)
 repeated starts element step s = λ last ts. elements starts element step (suc (length ts)) s last ts
 
 abbrev pub less : ℕ → ℕ
@@ -170,7 +176,8 @@ less zero = zero
 less (suc n) = n
 
 -- a part any number of times, where so many may come
-abbrev pub at_most : {A : Type 0} → (Lexeme → Bool) → (Lexeme → Option RefusalKind) → ℕ → Reader A → Reader (List A)
+abbrev pub at_most : {A : Type 0} → (Lexeme → Bool)
+    → (Lexeme → Option RefusalKind) → ℕ → Reader A → Reader (List A)
 at_most starts over most p = repeated starts (λ room. limited starts over room p) (λ room a. less room) most
 
 -- what stands behind a separator, and with which
@@ -179,15 +186,20 @@ behind_sign separates element s = one separates >>= λ sign. element sign s
 
 -- A first part, and further ones behind a separator each, which may have a meaning.
 -- The state starts from the first part and changes with each further one.
-abbrev pub chained : {F A B S : Type 0} → Reader F → (Lexeme → Bool) → (Lexeme → S → Reader A) → (S → A → S) → (F → S)
+abbrev pub chained : {F A B S : Type 0} → Reader F → (Lexeme → Bool)
+    → (Lexeme → S → Reader A) → (S → A → S) → (F → S)
     → (F → List A → B) → Reader B
 chained p separates element step start whole =
-    p >>= λ a. repeated separates (behind_sign separates element) step (start a) >>= λ more. pure (whole a more)
+    p >>= λ a. repeated separates (behind_sign separates element) step (start a) >>= λ more.
+    pure (whole a more)
 
 -- ---- readers that contain themselves
 
--- Parts that contain each other one level deeper, by the reader of one level over those of the level below. At level 0 none may be opened.
-unfoldable pub by_levels : {K : Type 0} {A : K → Type 0} → (ℕ → ((k : K) → Reader (A k)) → (k : K) → Reader (A k)) → ℕ
+-- Parts that contain each other one level deeper, by the reader of one level
+-- over those of the level below.
+-- At level 0 none may be opened.
+unfoldable pub by_levels : {K : Type 0} {A : K → Type 0}
+    → (ℕ → ((k : K) → Reader (A k)) → (k : K) → Reader (A k)) → ℕ
     → (k : K) → Reader (A k)
 by_levels level zero k = level zero (λ k. refuse) k
 by_levels level (suc n) k = level (suc n) (by_levels level n) k

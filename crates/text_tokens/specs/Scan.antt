@@ -59,7 +59,8 @@ sign_len (a ∷ b ∷ text) = if is_sign (a ∷ b ∷ []) then 2 else (if is_sig
 
 -- a token of so many bytes, if it may have so many
 abbrev pub sized : TokenKind → ℕ → Result Piece RefusalKind
-sized kind len = if nat_lt (most_bytes kind) len then Err WordTooLong else Ok (record { kind = kind; len = len })
+sized kind len =
+    if nat_lt (most_bytes kind) len then Err WordTooLong else Ok (record { kind = kind; len = len })
 
 abbrev pub sign_of : ℕ → Result Piece RefusalKind
 sign_of zero = Err BadByte
@@ -90,7 +91,8 @@ with_front i (Err kind) ls = []
 -- the tokens from an input on. The number bounds how many.
 unfoldable pub scan : ℕ → Input → List Lexeme
 scan zero i = []
-scan (suc n) i = let j = ready i in with_front j (front j.text) (scan n (input_past j (len_of (front j.text))))
+scan (suc n) i = let j = ready i in
+    with_front j (front j.text) (scan n (input_past j (len_of (front j.text))))
 
 abbrev pub fault_at : Input → Result Piece RefusalKind → Refusal → Refusal
 fault_at i (Ok p) last = last
@@ -99,7 +101,8 @@ fault_at i (Err kind) last = record { line = i.line; kind = kind }
 -- what is wrong behind them
 unfoldable pub scan_end : ℕ → Input → Refusal
 scan_end zero i = record { line = i.line; kind = Truncated }
-scan_end (suc n) i = let j = ready i in fault_at j (front j.text) (scan_end n (input_past j (len_of (front j.text))))
+scan_end (suc n) i = let j = ready i in
+    fault_at j (front j.text) (scan_end n (input_past j (len_of (front j.text))))
 
 unfoldable pub ahead_of : Input → List Lexeme
 ahead_of i = scan (suc (length i.text)) i

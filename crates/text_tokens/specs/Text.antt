@@ -39,7 +39,8 @@ is_sign (a ∷ b ∷ c ∷ more) = false
 abbrev pub is_in_line : ℕ → Bool
 is_in_line b = if b == 10 then false else true
 
--- A text, and what is left of it behind blanks and comments. A comment goes from # up to the next LF or to the end.
+-- A text, and what is left of it behind blanks and comments.
+-- A comment goes from # up to the next LF or to the end.
 pub data Skips : List ℕ → List ℕ → Type 0 where
   nothing : {text : List ℕ} → Skips text text
   blank : {b : ℕ} {text rest : List ℕ} → is_blank b ≡ true → Skips text rest → Skips (b ∷ text) rest
@@ -82,7 +83,8 @@ pub data Cuts : TokenKind → List ℕ → List ℕ → Type 0 where
   sign : {bytes rest : List ℕ} → is_sign bytes ≡ true → IsLongestSign bytes rest → Cuts Sign bytes rest
 
 abbrev pub BeginsNoToken : List ℕ → Type 0
-BeginsNoToken text = (kind : TokenKind) (bytes rest : List ℕ) → Cuts kind bytes rest → text ≡ bytes ++ rest → ⊥
+BeginsNoToken text =
+    (kind : TokenKind) (bytes rest : List ℕ) → Cuts kind bytes rest → text ≡ bytes ++ rest → ⊥
 
 -- how many bytes a token may have
 abbrev pub most_bytes : TokenKind → ℕ
@@ -124,7 +126,8 @@ pub record IsToken (source : List ℕ) (l : Lexeme) : Type 0 where
   pub text : drop l.from source ≡ l.text ++ drop (token_end l) source
   pub line : l.line ≡ line_at source l.from
 
--- The tokens of a source from a place on, and what is wrong behind the last of them where one more is needed:
+-- The tokens of a source from a place on, and what is wrong behind the last
+-- of them where one more is needed:
 -- the text ends there, or a byte begins no token, or a word or number is too long.
 pub data AreTokens (source : List ℕ) : ℕ → List Lexeme → Refusal → Type 0 where
   ends : {at : ℕ}

@@ -1,4 +1,5 @@
-//! What two small formats say of their tokens. The functions do nothing: their clauses are the laws.
+//! What two small formats say of their tokens.
+//! The functions do nothing: their clauses are the laws.
 
 ghost use Rattle.text_tokens.specs.declared.refusal.RefusalKind.TheVariants.{Trailing};
 ghost use Rattle.text_tokens.specs.Groups.{AreGroups, groups_to_end};
@@ -10,8 +11,8 @@ ghost use Rattle.text_tokens.specs.GroupTexts.{GroupsAreRead};
 ghost use Rattle.text_tokens.specs.Puts.{IsPut, put};
 ghost use Rattle.text_tokens.specs.PutTexts.{PutsAreRead};
 
-/// The tokens of groups, each judged once nothing more belongs to it, are read in one way, or have one first fault, and their
-/// reader answers that.
+/// The tokens of groups, each judged once nothing more belongs to it, are read in one way,
+/// or have one first fault, and their reader answers that.
 pub fn groups_are_decided()
     ensures exact { Exact AreGroups groups_to_end }
     ensures decided { IsDecided AreGroups }
@@ -27,7 +28,8 @@ pub fn puts_are_decided()
     ensures read { PutsAreRead }
 {}
 
-/// Where a token is refused in one text and not in another, a grammar can say two things, though every other law holds.
+/// Where a token is refused in one text and not in another, a grammar can say two things,
+/// though every other law holds.
 pub fn agreement_is_needed()
     ensures { AllButAgreement }
 {}

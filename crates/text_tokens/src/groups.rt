@@ -1,5 +1,5 @@
-//! A small format in which a group is judged once nothing more belongs to it. It is the pattern for elements that may go
-//! on, and for a whole input.
+//! A small format in which a group is judged once nothing more belongs to it.
+//! It is the pattern for elements that may go on, and for a whole input.
 
 ghost use Rattle.std.specs.Prelude.{◌<◌, IfOk, IfSome, map, option_map};
 ghost use Rattle.text_tokens.specs.declared.refusal.RefusalKind.TheVariants.{Trailing};
@@ -38,7 +38,8 @@ fn read_pair(tokens: &mut Tokens<'_>) -> Result<u32, ReadRefusal>
 
 /// One more pair, if one comes, where so many more may come.
 fn more_pair(tokens: &mut Tokens<'_>, room: u32) -> Result<Option<u32>, ReadRefusal>
-    ensures reads { Gives (λ o. o) (another spec.is_group_pair (spec.group_pair_in room)) tokens.old result tokens.new }
+    ensures reads { Gives (λ o. o)
+        (another spec.is_group_pair (spec.group_pair_in room)) tokens.old result tokens.new }
     ensures room { IfOk result (λ o. IfSome o (λ _. 0 < room)) }
 {
     if !tokens.is_next(TokenKind::Word, b"pair") {
@@ -77,7 +78,8 @@ fn read_group(alloc: Global, tokens: &mut Tokens<'_>) -> Result<Group, ReadRefus
 
 /// One more group, if one comes.
 fn more_group(alloc: Global, tokens: &mut Tokens<'_>) -> Result<Option<Group>, ReadRefusal>
-    ensures { Gives (λ o. option_map view.written_group o) (another spec.is_group spec.a_group) tokens.old result tokens.new }
+    ensures { Gives (λ o. option_map view.written_group o)
+        (another spec.is_group spec.a_group) tokens.old result tokens.new }
 {
     if !tokens.is_next(TokenKind::Word, b"entry") {
         return Ok(None);
@@ -106,13 +108,16 @@ fn read_whole(alloc: Global, tokens: &mut Tokens<'_>) -> Result<Vec<Group>, Read
 
 /// Reads groups up to their `end`.
 pub fn read_groups(alloc: Global, tokens: &mut Tokens<'_>) -> Result<Vec<Group>, ReadRefusal>
-    ensures tells { TellsOf spec.AreGroups (λ v. map view.written_group v.items) tokens.old result tokens.new }
-    ensures reads { ReadsOf spec.AreGroups (λ v. map view.written_group v.items) tokens.old result tokens.new }
+    ensures tells { TellsOf spec.AreGroups
+        (λ v. map view.written_group v.items) tokens.old result tokens.new }
+    ensures reads { ReadsOf spec.AreGroups
+        (λ v. map view.written_group v.items) tokens.old result tokens.new }
 {
     read_whole(alloc, tokens)
 }
 
-/// Reads bytes that are groups up to their `end`, with nothing behind it but blanks and comments. A token behind it is `Trailing`.
+/// Reads bytes that are groups up to their `end`, with nothing behind it but blanks and comments.
+/// A token behind it is `Trailing`.
 pub fn read_input(alloc: Global, bytes: &[u8]) -> Result<Vec<Group>, ReadRefusal>
     requires { IsCountable bytes.now }
     ensures { ReadsInput spec.AreGroups Trailing (λ v. map view.written_group v.items) bytes.now result }

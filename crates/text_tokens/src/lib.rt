@@ -1,4 +1,5 @@
-//! The tokens of a text, what may be wrong with a text, and the laws of readers that read token by token.
+//! The tokens of a text, what may be wrong with a text, and the laws
+//! of readers that read token by token.
 #![tactic(auto)]
 
 mod combinators;

@@ -35,8 +35,9 @@ const ROOM: usize = 1024;
 
 /// A text as it is made, line by line and token by token. It is seen as the bytes so far.
 ///
-/// A line is `begin`, a `word` or a `number` for each further token, and `end`. Where a call finds no memory, the text
-/// may end anywhere. A line is put together in the room behind the text, where it stays.
+/// A line is `begin`, a `word` or a `number` for each further token, and `end`.
+/// Where a call finds no memory, the text may end anywhere.
+/// A line is put together in the room behind the text, where it stays.
 #[derive(Drop)]
 pub struct Lines {
     /// The text so far, and room behind it.
@@ -90,7 +91,8 @@ impl Lines {
         self.add(word.as_bytes())
     }
 
-    /// A further token that is a decimal number. A negative one has a `-` directly before its digits.
+    /// A further token that is a decimal number.
+    /// A negative one has a `-` directly before its digits.
     pub fn number<I: Integer + Drop>(&mut self, number: I) -> Result<(), AllocError>
         ensures { OnOk result (self.new ≡ self.old ++ 32 ∷ I.text number) }
     {

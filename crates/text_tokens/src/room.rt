@@ -17,7 +17,8 @@ pub(crate) fn put(room: &mut [u8], at: usize, bytes: &[u8]) -> usize
     behind
 }
 
-/// Puts the digits of a number, at most five, into the room from a place on. It gives the place behind them.
+/// Puts the digits of a number, at most five, into the room from a place on.
+/// It gives the place behind them.
 #[inline(always)]
 pub(crate) fn put_digits(room: &mut [u8], at: usize, number: u64) -> usize
     requires few { number < 100000 }

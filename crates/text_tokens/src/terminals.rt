@@ -23,7 +23,8 @@ pub fn this_token(
     kind: TokenKind,
     text: &[u8],
 ) -> Result<Token, ReadRefusal>
-    ensures reads { Gives (lexeme_of tokens.old.source) (reading.one (is_the kind text.now)) tokens.old result tokens.new }
+    ensures reads { Gives (lexeme_of tokens.old.source)
+        (reading.one (is_the kind text.now)) tokens.old result tokens.new }
     ensures sure { IfErr result (λ e. e ≢ NoMemory) }
 {
     Ok(tokens.take(kind, text)?)
@@ -32,7 +33,8 @@ pub fn this_token(
 /// This token, for its line.
 #[tactic(auto, unfolding(crate::specs::Reading::the_line))]
 pub fn the_line(tokens: &mut Tokens<'_>, kind: TokenKind, text: &[u8]) -> Result<u32, ReadRefusal>
-    ensures reads { Gives (λ line. line) (reading.the_line (is_the kind text.now)) tokens.old result tokens.new }
+    ensures reads { Gives (λ line. line)
+        (reading.the_line (is_the kind text.now)) tokens.old result tokens.new }
     ensures sure { IfErr result (λ e. e ≢ NoMemory) }
 {
     Ok(this_token(tokens, kind, text)?.line)
@@ -57,7 +59,8 @@ pub fn number_up_to(
     most: u32,
     kind: RefusalKind,
 ) -> Result<u32, ReadRefusal>
-    ensures reads { Gives (λ n. n) (reading.numeral (reading.too_large most kind)) tokens.old result tokens.new }
+    ensures reads { Gives (λ n. n)
+        (reading.numeral (reading.too_large most kind)) tokens.old result tokens.new }
     ensures within { IfOk result (λ n. n ≤ most) }
     ensures sure { IfErr result (λ e. e ≢ NoMemory) }
 {

@@ -16,8 +16,8 @@ use crate::refusal::{Refusal, RefusalKind};
 use crate::token::{Token, TokenKind};
 use std::marker::Model;
 
-/// What stands at the front of a text: the kind of a token, how many bytes it has, and what it stands for if it is a number; or what
-/// is wrong there.
+/// What stands at the front of a text: the kind of a token, how many bytes it has,
+/// and what it stands for if it is a number; or what is wrong there.
 #[derive(Clone, Copy)]
 struct Lead {
     kind: Result<TokenKind, RefusalKind>,
@@ -38,8 +38,9 @@ impl Lead {
     }
 }
 
-/// The tokens of a text, from left to right. Contracts see the source, the tokens that are ahead, and what is wrong
-/// behind the last of them where one more is needed.
+/// The tokens of a text, from left to right.
+/// Contracts see the source, the tokens that are ahead,
+/// and what is wrong behind the last of them where one more is needed.
 #[derive(Drop)]
 pub struct Tokens<'a> {
     source: &'a [u8],
@@ -353,7 +354,8 @@ impl<'a> Tokens<'a> {
         }
     }
 
-    /// The next token, and `None` exactly where the text ends. A refusal, as `None`, changes nothing, so it comes again.
+    /// The next token, and `None` exactly where the text ends.
+    /// A refusal, as `None`, changes nothing, so it comes again.
     #[inline(always)]
     pub fn next(&mut self) -> Result<Option<Token>, Refusal>
         ensures answer { result ≡ cursor.answer self.old }
@@ -368,7 +370,8 @@ impl<'a> Tokens<'a> {
         Ok(found)
     }
 
-    /// Moves behind the next token, if there is one. Most tokens have one blank and a number behind them.
+    /// Moves behind the next token, if there is one.
+    /// Most tokens have one blank and a number behind them.
     #[inline(never)]
     fn skip_token(&mut self)
         ensures { self.new ≡ cursor.past_token self.old }
@@ -396,7 +399,8 @@ impl<'a> Tokens<'a> {
         *self = Tokens::at_next(self.source, at, line);
     }
 
-    /// The line of the next token, or else the line of the fault or of the end, where the text ends or goes on with a fault.
+    /// The line of the next token, or else the line of the fault or of the end,
+    /// where the text ends or goes on with a fault.
     pub fn line(&self) -> u32
         ensures { result ≡ cursor.line_of self.now.ahead self.now.last }
     {
@@ -429,8 +433,8 @@ impl<'a> Tokens<'a> {
         self.front.value
     }
 
-    /// A refusal of this kind on the line of the next token; where there is none, what is wrong there, which is
-    /// `Truncated` where the text ends.
+    /// A refusal of this kind on the line of the next token; where there is none,
+    /// what is wrong there, which is `Truncated` where the text ends.
     pub fn refusal(&self, kind: RefusalKind) -> Refusal
         ensures { result ≡ cursor.refusal_at self.now.last kind self.now.ahead }
     {
@@ -453,7 +457,8 @@ impl<'a> Tokens<'a> {
         let _ = &self.source;
     }
 
-    /// Nothing where the text ends. A token is refused for this kind, and a byte that begins none or a word that is too
+    /// Nothing where the text ends.
+    /// A token is refused for this kind, and a byte that begins none or a word that is too
     /// long for what is wrong with it.
     pub fn end(&self, kind: RefusalKind) -> Result<(), Refusal>
         ensures { result ≡ cursor.at_end kind self.now.last self.now.ahead }
@@ -486,7 +491,8 @@ impl<'a> Tokens<'a> {
         }
     }
 
-    /// The next token, if it is this one, by its kind and its bytes. Else it is `Unexpected`, or what `refusal` says.
+    /// The next token, if it is this one, by its kind and its bytes.
+    /// Else it is `Unexpected`, or what `refusal` says.
     /// An `Err` changes nothing.
     #[inline(always)]
     pub fn take(&mut self, kind: TokenKind, text: &[u8]) -> Result<Token, Refusal>
@@ -501,8 +507,10 @@ impl<'a> Tokens<'a> {
         self.take_any()
     }
 
-    /// The next token, if it is of this kind. Else it is `Unexpected`, or what `refusal` says. An `Err` changes nothing. A number
-    /// that was taken is one for `number`.
+    /// The next token, if it is of this kind.
+    /// Else it is `Unexpected`, or what `refusal` says.
+    /// An `Err` changes nothing.
+    /// A number that was taken is one for `number`.
     #[inline(always)]
     pub fn take_kind(&mut self, kind: TokenKind) -> Result<Token, Refusal>
         ensures answer { result ≡ expect (is_kind kind) self.old }

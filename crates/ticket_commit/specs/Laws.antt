@@ -20,15 +20,18 @@ use Rattle.ticket_commit.specs.Packed.{unpacked}
 -- a seat has at most one own list
 abbrev pub OwnListIsOne : {D : Type 0} → (D → Shown → Verdict) → Type 0
 OwnListIsOne {D} verdict =
-    (t : Token D) (one two : List (ℕ × Entry)) (room other : ℕ) → KeepsOwn verdict t one room → KeepsOwn verdict t two other → one ≡ two
+    (t : Token D) (one two : List (ℕ × Entry)) (room other : ℕ)
+    → KeepsOwn verdict t one room → KeepsOwn verdict t two other → one ≡ two
 
--- Of three turns the first caller has made two. Both committed: the first one drew place 0, and the second one place 2.
+-- Of three turns the first caller has made two.
+-- Both committed: the first one drew place 0, and the second one place 2.
 abbrev pub small_record : Shown → Shown → Record
 small_record first second = record {
   number = 0;
   caller = caller 2 Claim [] (mark.Done 0 ∷ mark.Done 2 ∷ []);
   committed =
-      record { place = 0; entry = small_entry 0 0; found = first } ∷ record { place = 2; entry = small_entry 0 1; found = second } ∷ [];
+      record { place = 0; entry = small_entry 0 0; found = first }
+      ∷ record { place = 2; entry = small_entry 0 1; found = second } ∷ [];
   taken = None;
   won = [];
   note = None;
@@ -46,7 +49,16 @@ SmallOwn {D} verdict =
 -- a head of these cells
 abbrev pub small_head : ℕ → ℕ → ℕ → ℕ → Head
 small_head place turn start end =
-    record { place = place; turn = turn; bot = 0; caller = 0; action = 0; moved = moved.None; start = start; end = end }
+    record {
+      place = place;
+      turn = turn;
+      bot = 0;
+      caller = 0;
+      action = 0;
+      moved = moved.None;
+      start = start;
+      end = end;
+    }
 
 -- three entries of one caller in memory, which have changed two cells, none, and one
 abbrev pub SmallUnpacked : Type 0

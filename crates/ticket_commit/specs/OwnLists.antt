@@ -10,7 +10,8 @@ use Rattle.amoebot_state.specs.Zones.{Shown}
 use Rattle.claim_core.specs.Limits.{most_turns}
 use Rattle.claim_core.specs.Merges.{own_of, IsMerge}
 
--- an own list: its entries, each with the place that it drew, and the number of entries for which there is room behind them
+-- an own list: its entries, each with the place that it drew,
+-- and the number of entries for which there is room behind them
 pub record OwnEntries : Type 0 where
   pub entries : List (ℕ × Entry)
   pub room : ℕ
@@ -19,8 +20,10 @@ pub record OwnEntries : Type 0 where
 abbrev pub entry_lists : List OwnEntries → List (List (ℕ × Entry))
 entry_lists lists = map (λ (own : OwnEntries). own.entries) lists
 
--- the lists have a merge, for which there is so much room, and its entries are a run from this world on
-pub record HasMerge (f : Shown → Verdict) (world : Config) (lists : List (List (ℕ × Entry))) (spare : ℕ) : Type 0 where
+-- the lists have a merge, for which there is so much room,
+-- and its entries are a run from this world on
+pub record HasMerge (f : Shown → Verdict) (world : Config)
+    (lists : List (List (ℕ × Entry))) (spare : ℕ) : Type 0 where
   pub journal : List Entry
   pub merge : IsMerge lists journal
   pub last : Config

@@ -29,8 +29,8 @@ pub record HasCells (cells : ℕ) (h : Head) : Type 0 where
   pub within : h.end ≤ cells
   pub few : h.end ≤ h.start + most_pairs
 
--- what an own list keeps: the cells of each head are there, so many entries were taken, and where there is room for a head there is room
--- for the cells of a patch
+-- what an own list keeps: the cells of each head are there, so many entries were taken,
+-- and where there is room for a head there is room for the cells of a patch
 pub record IsPacked (heads : Vec Head Global) (triples : Vec CellChange Global) (taken : ℕ) : Type 0 where
   pub alike : triples_alike triples.items
   pub cells : All (HasCells (length triples.items)) heads.items

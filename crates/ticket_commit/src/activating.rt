@@ -12,7 +12,8 @@ use claim_rule::{ByTicket, draw};
 use node_claims::{Turn, place, release, release_settled, try_claim};
 use std::marker::Model;
 
-/// What became of a turn whose commit draws its place. `activate_ticket` alone makes it, of steps on the words of a field.
+/// What became of a turn whose commit draws its place.
+/// `activate_ticket` alone makes it, of steps on the words of a field.
 #[derive(Drop)]
 pub struct TicketTurn {
     answer: Turn<ByTicket>,
@@ -50,8 +51,10 @@ impl TicketTurn {
     }
 }
 
-/// The caller's next turn, whole: it claims the zone of its amoebot, calls the gate, decides on what it found, draws the place of a change
-/// and keeps the entry with that place in its own list, and frees what it holds. It waits for nobody and takes no memory.
+/// The caller's next turn, whole: it claims the zone of its amoebot, calls the gate,
+/// decides on what it found, draws the place of a change and keeps the entry with that place
+/// in its own list, and frees what it holds.
+/// It waits for nobody and takes no memory.
 pub fn activate_ticket<D: Decider, G: Gate>(
     field: &TicketField<'_, D>,
     seat: TicketSeat<D>,

@@ -14,8 +14,10 @@ use amoebot_state::{Decider, World};
 use claim_core::Journal;
 
 impl<'d, D: Decider> TicketField<'d, D> {
-    /// The world after all that was committed, and the journal, once all seats are back: the merge of the own lists by place. The callers
-    /// need not have ended: the seats hold nothing, and each of their marks is right. It takes no memory.
+    /// The world after all that was committed, and the journal, once all seats are back:
+    /// the merge of the own lists by place.
+    /// The callers need not have ended: the seats hold nothing, and each of their marks is right.
+    /// It takes no memory.
     pub fn close(self, seats: TicketSeats<D>) -> (World, Journal)
         requires field { AreOf self seats }
         requires all { All (λ seat. IsSome seat) seats.seats }

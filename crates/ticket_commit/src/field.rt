@@ -12,8 +12,9 @@ use claim_rule::{ByTicket, Field};
 use std::alloc::Global;
 use std::marker::Model;
 
-/// A field whose callers draw the places of their commits, and all memory that its end needs. While they work there is no journal. It is
-/// seen as its table and what it is about: the decider, the first world and the lists.
+/// A field whose callers draw the places of their commits, and all memory that its end needs.
+/// While they work there is no journal.
+/// It is seen as its table and what it is about: the decider, the first world and the lists.
 #[derive(Drop)]
 pub struct TicketField<'d, D: Decider> {
     pub(crate) field: Field<'d, D, ByTicket>,
@@ -33,8 +34,9 @@ impl<'d, D: Decider> Model for TicketField<'d, D> {
 }
 
 impl<'d, D: Decider> TicketField<'d, D> {
-    /// A field over a world, for callers with these lists of ids of amoebots of it, and a seat for each caller. It takes all memory
-    /// that the callers and `close` need.
+    /// A field over a world, for callers with these lists of ids of amoebots of it,
+    /// and a seat for each caller.
+    /// It takes all memory that the callers and `close` need.
     pub fn make(
         alloc: Global,
         decider: &'d D,

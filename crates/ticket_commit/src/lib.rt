@@ -1,4 +1,5 @@
-//! Commits that wait for nobody: a field on which a commit draws its place, turns on it, and the merge of what the callers committed.
+//! Commits that wait for nobody: a field on which a commit draws its place, turns on it,
+//! and the merge of what the callers committed.
 #![tactic(auto)]
 
 mod activating;

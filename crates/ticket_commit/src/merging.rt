@@ -9,8 +9,10 @@ use crate::own::OwnList;
 use amoebot_state::{Decider, World};
 use claim_core::Journal;
 
-/// Adds the merge of the callers' own lists by place to a journal that has room for it, and makes the world the last one of its run. The
-/// decider is there for the contract alone. It takes no memory.
+/// Adds the merge of the callers' own lists by place to a journal that has room for it,
+/// and makes the world the last one of its run.
+/// The decider is there for the contract alone.
+/// It takes no memory.
 pub(crate) fn merge<D: Decider>(
     _decider: &D,
     world: &mut World,

@@ -25,8 +25,9 @@ pub(crate) struct Head {
     end: usize,
 }
 
-/// The entries that a caller has committed, each with the place that it drew, and room for more. A patch takes as much memory as it has
-/// cells. The merge takes the entries from the front.
+/// The entries that a caller has committed, each with the place that it drew, and room for more.
+/// A patch takes as much memory as it has cells.
+/// The merge takes the entries from the front.
 #[derive(Drop)]
 pub(crate) struct OwnList {
     heads: Vec<Head>,
@@ -79,7 +80,8 @@ impl OwnList {
     #[inline(always)]
     pub(crate) fn push(&mut self, place: u32, caller: u8, turn: u32, bot: u16, change: &Change)
         requires { 0 < self.old.room }
-        ensures entries { self.new.entries ≡ self.old.entries ++ (place, entry_of caller turn bot change.now) ∷ [] }
+        ensures entries { self.new.entries
+            ≡ self.old.entries ++ (place, entry_of caller turn bot change.now) ∷ [] }
         ensures room { self.new.room + 1 ≡ self.old.room }
     {
         let start = self.triples.len();

@@ -6,8 +6,9 @@ use amoebot_state::Decider;
 use claim_rule::{ByTicket, Seat};
 use std::marker::Model;
 
-/// A caller between two turns, with its own list: the entries that it committed, each with the place that it drew, and room for those of
-/// its other turns. It is seen as its field's table and what it knows: its caller's number, turn, marks and entries.
+/// A caller between two turns, with its own list: the entries that it committed,
+/// each with the place that it drew, and room for those of its other turns.
+/// It is seen as its field's table and what it knows: its caller's number, turn, marks and entries.
 #[derive(Drop)]
 pub struct TicketSeat<D: Decider> {
     pub(crate) seat: Seat<D, ByTicket>,

@@ -10,12 +10,14 @@ use claim_rule::{ByTicket, Seats};
 use std::marker::Model;
 use std::mem::replace;
 
-/// The seats of a field on which commits draw their places, one for each caller. Contracts see them as the field's table, what it is
-/// about, and the seats by the callers' numbers, each there or given out.
+/// The seats of a field on which commits draw their places, one for each caller.
+/// Contracts see them as the field's table, what it is about,
+/// and the seats by the callers' numbers, each there or given out.
 #[derive(Drop)]
 pub struct TicketSeats<D: Decider> {
     pub(crate) seats: Seats<D, ByTicket>,
-    /// The own lists by the callers' numbers. Where a seat was given out, its list is with it, and an empty one is in its place.
+    /// The own lists by the callers' numbers.
+    /// Where a seat was given out, its list is with it, and an empty one is in its place.
     pub(crate) own: Vec<OwnList>,
 }
 
@@ -31,12 +33,15 @@ impl<D: Decider> Model for TicketSeats<D> {
 }
 
 impl<D: Decider> TicketSeats<D> {
-    /// The seat of the least number that is there, with its own list; None where all were given out. It takes no memory.
+    /// The seat of the least number that is there, with its own list;
+    /// None where all were given out.
+    /// It takes no memory.
     pub fn take(&mut self) -> Option<TicketSeat<D>>
         ensures none { (result ≡ None) ↔ All (λ seat. seat ≡ None) self.old.seats }
         ensures first { IfSome result (λ seat. IsFirst self.old.seats seat
             × (self.new ≡ record self.old { seats = slice_set self.old.seats (number_in seat) None })) }
-        ensures of { IfSome result (λ seat. (seat.table ≡ self.old.table) × (seat.view.terms ≡ self.old.terms)) }
+        ensures of { IfSome result (λ seat.
+            (seat.table ≡ self.old.table) × (seat.view.terms ≡ self.old.terms)) }
         ensures stays { result ≡ None → self.new ≡ self.old }
     {
         let seat = self.seats.take()?;
@@ -49,7 +54,8 @@ impl<D: Decider> TicketSeats<D> {
     pub fn give(&mut self, seat: TicketSeat<D>)
         requires field { (seat.table ≡ self.old.table) × (seat.view.terms ≡ self.old.terms) }
         requires out { slice_get self.old.seats (number_in seat) ≡ Some None }
-        ensures { self.new ≡ record self.old { seats = slice_set self.old.seats (number_in seat) (Some seat) } }
+        ensures { self.new
+            ≡ record self.old { seats = slice_set self.old.seats (number_in seat) (Some seat) } }
     {
         let TicketSeat { seat, own } = seat;
         self.own[usize::from(seat.caller())] = own;

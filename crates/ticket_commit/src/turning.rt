@@ -13,7 +13,8 @@ use std::sync::Wait;
 use std::thread::Threads;
 use turn_desks::{Desk, Turning, make_all};
 
-/// Turns on a field on which commits draw their places: a seat is its token, and an answer what became of the turn.
+/// Turns on a field on which commits draw their places: a seat is its token,
+/// and an answer what became of the turn.
 #[derive(Drop)]
 pub struct ByTickets<'a, 'd, D: Decider> {
     pub field: &'a TicketField<'d, D>,

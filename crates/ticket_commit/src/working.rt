@@ -26,8 +26,9 @@ pub type TicketTurns = Turns<TicketTurn>;
 /// What the workers leave: the report, and for each turn what its activation answered.
 pub type TicketWorked = Worked<TicketTurn>;
 
-/// Makes the turns of all callers, each caller's in their order by a worker of its own. Commits draw their places, so no worker waits for
-/// another one's commit. All memory is taken before the first claim.
+/// Makes the turns of all callers, each caller's in their order by a worker of its own.
+/// Commits draw their places, so no worker waits for another one's commit.
+/// All memory is taken before the first claim.
 pub fn work_tickets<R: Threads + Wait + Sync, D: Decider, G: Gate>(
     rt: &R,
     alloc: Global,
@@ -39,7 +40,8 @@ pub fn work_tickets<R: Threads + Wait + Sync, D: Decider, G: Gate>(
     requires { All (All (λ id. IsSome (bot_at world id))) lists.now.ids }
     ensures ticketed { IfOk result (λ worked.
         TicketReached (setup_of_terms D.verdict (field_terms decider.now world lists.now)) worked.report) }
-    ensures reached { IfOk result (λ worked. Reached (setup_of_terms D.verdict (field_terms decider.now world lists.now)) worked.report) }
+    ensures reached { IfOk result (λ worked.
+        Reached (setup_of_terms D.verdict (field_terms decider.now world lists.now)) worked.report) }
     ensures good { IfOk result (λ worked. Good (D.verdict decider.now) world lists.now worked.report) }
     ensures turns { IfOk result (λ worked. AreTurnsOf worked.report.turns worked.turns) }
 {

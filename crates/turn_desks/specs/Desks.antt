@@ -26,7 +26,8 @@ caller_between_turns g t marks = caller t (opening_phase g t) [] marks
 
 -- the marks with these behind those that a caller has
 abbrev pub with_marks : MarkLists → ℕ → List Mark → MarkLists
-with_marks marks caller own = record marks { marks = slice_set marks.marks caller (marks_of marks caller ++ own) }
+with_marks marks caller own =
+    record marks { marks = slice_set marks.marks caller (marks_of marks caller ++ own) }
 
 module _ {S A : Type 0} where
   -- a desk at which no turn was made, with room for so many
@@ -71,7 +72,8 @@ module _ {D S : Type 0} (verdict : D → Shown → Verdict) (token : S → Token
     pub left : turn < (about verdict (token seat).view).lists.turns
     pub its_bot : bot ≡ bot_in verdict (token seat).view
 
-module _ {D S A W : Type 0} (verdict : D → Shown → Verdict) (token : S → Token D) (told : A → Turn W) (f : FieldOf D) where
+module _ {D S A W : Type 0} (verdict : D → Shown → Verdict)
+    (token : S → Token D) (told : A → Turn W) (f : FieldOf D) where
   -- this is what a turn leaves of the seat, and its answer
   pub record IsTurnMade (seat : S) (made : S × A) : Type 0 where
     pub answer : HasAnswered verdict (token seat) (token made.0) (told made.1)
@@ -92,7 +94,8 @@ module _ {D S A W : Type 0} (verdict : D → Shown → Verdict) (token : S → T
     pub there : seat_at token desk ≡ Some seat
     pub of : IsOf f seat
     pub number : number_in seat ≡ c
-    pub doing : doing seat ≡ caller_between_turns (setup_of_terms verdict f.terms) t (marks_in (turns_at told desk))
+    pub doing : doing seat
+        ≡ caller_between_turns (setup_of_terms verdict f.terms) t (marks_in (turns_at told desk))
     pub count : length (turns_at told desk) ≡ t
     pub room : f.terms.lists.turns ≤ vec_capacity desk.turns
     pub each : (turn : ℕ) (answer : Turn W)

@@ -19,7 +19,8 @@ turn_at turns caller turn = slice_get (turns_of turns caller) turn
 abbrev pub marks_in : {W : Type 0} → List (Turn W) → List Mark
 marks_in turns = map mark_of turns
 
--- the turns of each caller, each with this caller and its number, have the caller's marks in their order, and there are no others
+-- the turns of each caller, each with this caller and its number,
+-- have the caller's marks in their order, and there are no others
 pub record AreTurnsOf {W : Type 0} (told : MarkLists) (turns : List (List (Turn W))) : Type 0 where
   pub marks : told.marks ≡ map marks_in turns
   pub each : (caller turn : ℕ) (answer : Turn W)

@@ -18,7 +18,8 @@ pub fn copy_marks<D: Decider, W, T: Turning<D, W>>(
     requires few { AreFew (length turns.now) marks.old.turns }
     requires all { All (λ own. length own ≡ marks.old.turns) (lists_told T.told turns.now) }
     requires none { marks.old ≡ no_marks (length turns.now) marks.old.turns }
-    ensures { marks.new ≡ record { turns = marks.old.turns; marks = map marks_in (lists_told T.told turns.now) } }
+    ensures { marks.new
+        ≡ record { turns = marks.old.turns; marks = map marks_in (lists_told T.told turns.now) } }
 {
     let mut caller = 0;
     for own in turns {

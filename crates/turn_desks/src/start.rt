@@ -1,22 +1,24 @@
 use std::sync::atomic::{AtomicU64, Ordering};
 use std::thread;
 
-/// How often a worker that waits lets other threads go first. After so many times it waits no longer.
+/// How often a worker that waits lets other threads go first.
+/// After so many times it waits no longer.
 const TIMES: u32 = 100;
 
-/// How often it looks before the first time: a microsecond or two long. Between two times it looks twice as
-/// often as before, since who looks has a processor that another worker may need.
+/// How often it looks before the first time: a microsecond or two long.
+/// Between two times it looks twice as often as before,
+/// since who looks has a processor that another worker may need.
 const LOOKS: u32 = 4_000;
 
 /// The most looks between two times, some tenths of a millisecond.
 const MOST_LOOKS: u32 = 524_288;
 
-/// A worker that has made some turns is ahead while the others together lack too many to have made as many
-/// each: more than one for each worker, and so many.
+/// A worker that has made some turns is ahead while the others together lack too many to have made
+/// as many each: more than one for each worker, and so many.
 const APART: u64 = 2;
 
-/// In lists of so many turns the others may lack one turn more for each worker while they do not move, and as
-/// if there were four workers where there are fewer.
+/// In lists of so many turns the others may lack one turn more for each worker while they do
+/// not move, and as if there were four workers where there are fewer.
 const LOOSER: u64 = 256;
 
 const AS_FEW: u64 = 4;
@@ -27,8 +29,8 @@ const FURTHER: u64 = 8;
 /// They never lack so many turns.
 const ANY: u64 = 1 << 40;
 
-/// Where workers begin together and keep step, if they can. What it has counted is shared by the threads and
-/// said by no contract.
+/// Where workers begin together and keep step, if they can.
+/// What it has counted is shared by the threads and said by no contract.
 #[derive(Drop)]
 pub(crate) struct Start {
     workers: u64,
@@ -49,9 +51,9 @@ impl Start {
         }
     }
 
-    /// Notes that one more worker begins, and waits until all have begun, for a bounded time. If they have
-    /// not, nobody waits any more, here or in `pace`: where no thread could be started, some workers begin
-    /// only after others have ended.
+    /// Notes that one more worker begins, and waits until all have begun, for a bounded time.
+    /// If they have not, nobody waits any more, here or in `pace`:
+    /// where no thread could be started, some workers begin only after others have ended.
     pub(crate) fn begin(&self) {
         self.begun.fetch_add(1, Ordering::SeqCst);
         let mut looks = LOOKS;
@@ -68,8 +70,9 @@ impl Start {
         }
     }
 
-    /// Notes that a worker has made its turn `turn` of `turns`, and waits while it is ahead, for a bounded
-    /// time. Without a wait the others may lack `lack` turns; the answer is what they may lack next time.
+    /// Notes that a worker has made its turn `turn` of `turns`, and waits while it is ahead,
+    /// for a bounded time.
+    /// Without a wait the others may lack `lack` turns; the answer is what they may lack next time.
     pub(crate) fn pace(&self, turn: u32, turns: u32, lack: u64) -> u64 {
         let own = u64::from(turn).wrapping_add(1).wrapping_mul(self.workers);
         let made = self.made.fetch_add(1, Ordering::SeqCst).wrapping_add(1);
@@ -79,10 +82,12 @@ impl Start {
         self.wait(own, turns, lack)
     }
 
-    /// Waits until all workers together have made as many turns as `own`, except for what they may lack.
+    /// Waits until all workers together have made as many turns as `own`,
+    /// except for what they may lack.
     /// - Where they come to it while the worker only looks, its next steps are tighter.
-    /// - Each time that it lets other threads go first its steps are looser, up to a bound that grows with
-    ///   the lists. Where other processes have the processors, one time may take as long as a thousand turns.
+    /// - Each time that it lets other threads go first its steps are looser,
+    ///   up to a bound that grows with the lists.
+    ///   Where other processes have the processors, one time may take as long as a thousand turns.
     /// - After the last time the steps of all are looser for good, so in the end nobody waits.
     fn wait(&self, own: u64, turns: u32, lack: u64) -> u64 {
         let least = self.apart.load(Ordering::SeqCst);

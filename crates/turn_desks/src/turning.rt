@@ -6,8 +6,8 @@ ghost use Rattle.node_claims.specs.Answers.{mark_of};
 use amoebot_state::Decider;
 use claim_core::Mark;
 
-/// What turns on a field are made of, with the way of committing `W`. A caller's seat may hold more than its token, and an answer more
-/// than what became of the turn.
+/// What turns on a field are made of, with the way of committing `W`.
+/// A caller's seat may hold more than its token, and an answer more than what became of the turn.
 pub trait Turning<D: Decider, W>: Sync {
     /// What a caller has between two turns.
     type Seat: Send + Drop;

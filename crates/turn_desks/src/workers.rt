@@ -12,7 +12,8 @@ use std::sync::Wait;
 use std::thread;
 use std::thread::Threads;
 
-/// What a worker has before it: the seat of its caller, and the answers of the caller's turns so far.
+/// What a worker has before it: the seat of its caller,
+/// and the answers of the caller's turns so far.
 #[derive(Drop)]
 pub struct Desk<S, A> {
     pub seat: Option<S>,
@@ -22,8 +23,8 @@ pub struct Desk<S, A> {
 /// The most callers, and so the most workers beside one another.
 const WORKERS: usize = 16;
 
-/// Makes the turns of all callers, of which the desks are in the order of their numbers. The desks are halved, and one half goes to another
-/// thread, down to single ones.
+/// Makes the turns of all callers, of which the desks are in the order of their numbers.
+/// The desks are halved, and one half goes to another thread, down to single ones.
 pub fn make_all<
     R: Threads + Wait + Sync,
     D: Decider,
@@ -31,7 +32,8 @@ pub fn make_all<
     T: Turning<D, W>,
     F: Fn(u32, u16, T::Seat) -> (T::Seat, T::Answer) + Sync,
 >(rt: &R, turning: &T, make: &F, lists: &Lists, desks: &mut [Desk<T::Seat, T::Answer>])
-    requires makes { MakesTurns D.verdict T.token T.told (T.field turning.now) (F.pre make.now) (F.post make.now) }
+    requires makes { MakesTurns D.verdict T.token T.told
+        (T.field turning.now) (F.pre make.now) (F.post make.now) }
     requires few { length desks.old ≡ length lists.now.ids }
     requires lists { (T.field turning.now).terms.lists ≡ lists.now }
     requires before { HaveMade D.verdict T.token T.told (T.field turning.now) 0 desks.old }
@@ -44,15 +46,17 @@ pub fn make_all<
             × ((T.field turning.now).terms.lists ≡ lists.now)
             × MakesTurns D.verdict T.token T.told (T.field turning.now) (F.pre make.now) (F.post make.now)
             × HasMade D.verdict T.token T.told (T.field turning.now) caller 0 desk.now }
-        ensures { HasMade D.verdict T.token T.told (T.field turning.entry.now) caller lists.entry.now.turns desk.exit.now }
+        ensures { HasMade D.verdict T.token T.told
+            (T.field turning.entry.now) caller lists.entry.now.turns desk.exit.now }
     { make_turns(rt, turning, make, lists, caller as u8, &start, desk) };
     thread::for_each_mut(rt, desks, WORKERS, &worker);
 }
 
-/// One worker: begins with the others, makes all turns of a caller in their order, and keeps the answer of
-/// each. Between two turns it keeps step with the others: what its amoebots wait for may be their turn.
-/// Meanwhile the desk is its own, apart from those of the others: they lie side by side in memory, and what
-/// one writes there slows the others down.
+/// One worker: begins with the others, makes all turns of a caller in their order,
+/// and keeps the answer of each.
+/// Between two turns it keeps step with the others: what its amoebots wait for may be their turn.
+/// Meanwhile the desk is its own, apart from those of the others: they lie side by side in memory,
+/// and what one writes there slows the others down.
 fn make_turns<
     R: Wait,
     D: Decider,
@@ -68,7 +72,8 @@ fn make_turns<
     start: &Start,
     desk: &mut Desk<T::Seat, T::Answer>,
 )
-    requires makes { MakesTurns D.verdict T.token T.told (T.field turning.now) (F.pre make.now) (F.post make.now) }
+    requires makes { MakesTurns D.verdict T.token T.told
+        (T.field turning.now) (F.pre make.now) (F.post make.now) }
     requires listed { caller < length lists.now.ids }
     requires lists { (T.field turning.now).terms.lists ≡ lists.now }
     requires before { HasMade D.verdict T.token T.told (T.field turning.now) caller 0 desk.old }
@@ -106,7 +111,8 @@ fn make_turn<
     turn: u32,
     desk: &mut Desk<T::Seat, T::Answer>,
 )
-    requires makes { MakesTurns D.verdict T.token T.told (T.field turning.now) (F.pre make.now) (F.post make.now) }
+    requires makes { MakesTurns D.verdict T.token T.told
+        (T.field turning.now) (F.pre make.now) (F.post make.now) }
     requires listed { caller < length lists.now.ids }
     requires turn { turn < lists.now.turns }
     requires lists { (T.field turning.now).terms.lists ≡ lists.now }

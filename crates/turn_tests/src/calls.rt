@@ -1,4 +1,5 @@
-//! The calls of a gate: one in each turn whose zone was claimed, before the decision, with the turn's caller and number.
+//! The calls of a gate: one in each turn whose zone was claimed, before the decision,
+//! with the turn's caller and number.
 ghost use Rattle.std.specs.Prelude.{◌≡◌, IfOk};
 ghost use Rattle.claim_rule.specs.Seating.{AreOf};
 ghost use Rattle.claim_rule.specs.Tokens.{IsOf, number_in};
@@ -52,7 +53,8 @@ impl Decider for Watching {
     ghost verdict = { λ _ _. verdict.Idle };
 
     ghost is_lawful = { λ _ c i change h.
-        let Stays : Verdict → Type 0 = λ v. elim v [ verdict.Idle ↦ Unit {0} | verdict.Failed _ ↦ Unit {0} | verdict.Change _ ↦ ⊥ ] in
+        let Stays : Verdict → Type 0 = λ v.
+        elim v [ verdict.Idle ↦ Unit {0} | verdict.Failed _ ↦ Unit {0} | verdict.Change _ ↦ ⊥ ] in
         absurd (subst Stays h.decided tt) };
 
     fn decide(&self, _found: &Found) -> Verdict {
@@ -189,8 +191,8 @@ fn the_gate_is_told_caller_and_turn(rt: HostRuntime) -> Result<(), Fail> {
     both_are_noted(&rt, &field, &lists, &mut seats)
 }
 
-/// A gate that notes which turns of four callers came, and how many calls there were. It lets other threads go first, so that zones are
-/// held for a while.
+/// A gate that notes which turns of four callers came, and how many calls there were.
+/// It lets other threads go first, so that zones are held for a while.
 #[derive(Drop)]
 struct Register {
     calls: AtomicU64,
@@ -249,7 +251,8 @@ impl Register {
     }
 }
 
-/// In a run of four workers on three amoebots in a row, each turn that is not Busy comes to the gate, and no other does.
+/// In a run of four workers on three amoebots in a row,
+/// each turn that is not Busy comes to the gate, and no other does.
 fn come_to_the_gate<R: Abort + Threads + Wait + Sync>(
     rt: &R,
     alloc: Global,

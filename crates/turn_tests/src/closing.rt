@@ -71,8 +71,9 @@ fn after_turns<R: Wait + Abort, D: Decider>(
     }
 }
 
-/// What the field leaves once so many callers have made all their turns, and the others none. It is a run of the model from the first
-/// world, in the callers' order, and there are right marks for it.
+/// What the field leaves once so many callers have made all their turns, and the others none.
+/// It is a run of the model from the first world, in the callers' order,
+/// and there are right marks for it.
 fn closed<R: Wait + Abort, D: Decider>(
     rt: &R,
     field: Field<'_, D>,
@@ -84,7 +85,8 @@ fn closed<R: Wait + Abort, D: Decider>(
     requires of { AreOf field seats }
     requires lists { field.terms.lists ≡ lists.now }
     requires all { All (λ seat. IsSome seat) seats.seats }
-    ensures run { IfOk result (λ left. let z = field.entry.terms in Run (D.verdict z.decider) z.world left.1.entries left.0) }
+    ensures run { IfOk result (λ left. let z = field.entry.terms in
+        Run (D.verdict z.decider) z.world left.1.entries left.0) }
     ensures order { IfOk result (λ left. Order field.entry.terms.lists left.1.entries) }
     ensures marks { IfOk result (λ left. (marks : MarkLists) × (let z = field.entry.terms in
         AreMarks SoFar (D.verdict z.decider) z.world z.lists left.1.entries marks)) }
@@ -123,8 +125,8 @@ fn left_after<R: Wait + Abort>(
     closed(rt, field, lists, expected, seats, callers)
 }
 
-/// Four callers, of which so many make all their turns: the field leaves these entries then, and what the machine leaves by the same
-/// steps once all have made them.
+/// Four callers, of which so many make all their turns: the field leaves these entries then,
+/// and what the machine leaves by the same steps once all have made them.
 fn closes_after<R: Wait + Abort>(
     rt: &R,
     alloc: Global,

@@ -6,7 +6,8 @@ use activation::Gate;
 use std::test::Fail;
 use turn_workers::MeetGate;
 
-/// For how many callers a gate is, how many looks it allows, which callers come to it in which turns, and whether all have met.
+/// For how many callers a gate is, how many looks it allows,
+/// which callers come to it in which turns, and whether all have met.
 static CALLS: [(u8, u64, &[(u8, u32)], bool); 9] = [
     // One of two meets nobody. The second finds both, but the first has used up its looks.
     (2, 10, &[(0, 0)], false),

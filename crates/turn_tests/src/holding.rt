@@ -1,4 +1,5 @@
-//! A gate that holds one caller, with its zone claimed and nothing committed, while the others make all their turns.
+//! A gate that holds one caller, with its zone claimed and nothing committed,
+//! while the others make all their turns.
 use crate::meeting::scattered;
 use crate::runs::{WAYS, Way, report_over};
 use claim_tests::is_report;

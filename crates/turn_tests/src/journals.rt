@@ -79,7 +79,8 @@ fn take_turns(
     second_follows(rt, field, taken, second, second_change)
 }
 
-/// Caller 1, which has decided, finds the journal taken, and takes it once caller 0 has stored its entry.
+/// Caller 1, which has decided, finds the journal taken,
+/// and takes it once caller 0 has stored its entry.
 fn second_follows(
     rt: &impl Abort,
     field: &Field<'_, Marker>,

@@ -55,7 +55,8 @@ const IDLE_1: Mark = Mark::Idle { place: 1 };
 
 const IDLE_2: Mark = Mark::Idle { place: 2 };
 
-/// Each expands in its first turn, in either order, and then rests. They meet in each turn, so both have expanded before a second turn.
+/// Each expands in its first turn, in either order, and then rests.
+/// They meet in each turn, so both have expanded before a second turn.
 static EITHER_FIRST: [[&[Mark]; 2]; 2] = [
     [&[DONE_0, IDLE_2, IDLE_2], &[DONE_1, IDLE_2, IDLE_2]],
     [&[DONE_1, IDLE_2, IDLE_2], &[DONE_0, IDLE_2, IDLE_2]],
@@ -80,7 +81,8 @@ fn two_ticket_workers_meet_in_each_turn(rt: HostRuntime) -> Result<(), Fail> {
     two_meet(&rt, rt.alloc(), Way::Tickets)
 }
 
-/// A caller's first turn waits, with its zone claimed, until the other caller has come to its last turn; and that one begins when it waits.
+/// A caller's first turn waits, with its zone claimed, until the other caller has come to its last
+/// turn; and that one begins when it waits.
 #[derive(Drop)]
 struct Holding {
     held: AtomicBool,
@@ -113,7 +115,8 @@ impl Gate for Holding {
     }
 }
 
-/// Caller 1 is refused the amoebot of caller 0 behind its own first entry, and caller 0 commits later.
+/// Caller 1 is refused the amoebot of caller 0 behind its own first entry,
+/// and caller 0 commits later.
 static ONE_IS_HELD: [&[Mark]; 2] = [
     &[DONE_1, IDLE_2, IDLE_2],
     &[
@@ -171,7 +174,8 @@ impl Decider for Meeting {
     ghost verdict = { λ _ _. verdict.Idle };
 
     ghost is_lawful = { λ _ c i change h.
-        let Stays : Verdict → Type 0 = λ v. elim v [ verdict.Idle ↦ Unit {0} | verdict.Failed _ ↦ Unit {0} | verdict.Change _ ↦ ⊥ ] in
+        let Stays : Verdict → Type 0 = λ v.
+        elim v [ verdict.Idle ↦ Unit {0} | verdict.Failed _ ↦ Unit {0} | verdict.Change _ ↦ ⊥ ] in
         absurd (subst Stays h.decided tt) };
 
     fn decide(&self, found: &Found) -> Verdict {
@@ -253,7 +257,8 @@ fn sixteen_workers_meet_in_each_turn(rt: HostRuntime) -> Result<(), Fail> {
     Ok(())
 }
 
-/// How many turns there are, and the lists, where nobody has a turn; and no list or no turn is left.
+/// How many turns there are, and the lists, where nobody has a turn;
+/// and no list or no turn is left.
 static NO_TURNS: [(u32, &[&[u16]], &[&[Mark]]); 2] = [
     (3, &[], &[]),
     (0, &[&[0], &[0]], &[&[], &[]]),

@@ -1,5 +1,5 @@
-//! Long lists, of which some are held in their first turn: the others wait for them for a bounded time, and
-//! then make all their turns.
+//! Long lists, of which some are held in their first turn:
+//! the others wait for them for a bounded time, and then make all their turns.
 use crate::meeting::scattered;
 use crate::runs::{WAYS, Way, report_over};
 use claim_tests::is_report;

@@ -1,4 +1,5 @@
-//! Reports of real threads over small worlds where zones meet, judged by a plain checker that knows the model and nothing of claims.
+//! Reports of real threads over small worlds where zones meet,
+//! judged by a plain checker that knows the model and nothing of claims.
 ghost use Rattle.std.specs.Prelude.{◌≤◌, length};
 ghost use Rattle.std.specs.List.{All};
 ghost use Rattle.amoebot_state.specs.Limits.{most_bots};
@@ -24,7 +25,8 @@ const EXPANDER: Expander = Expander {
     },
 };
 
-/// Judges the reports of so many runs by each way. Each journal, replayed, gives the report's world.
+/// Judges the reports of so many runs by each way.
+/// Each journal, replayed, gives the report's world.
 fn check_runs<R: Threads + Wait + Sync + Abort, D: Decider>(
     rt: &R,
     alloc: Global,

@@ -27,7 +27,8 @@ pub enum Way {
 
 pub const WAYS: [Way; 2] = [Way::Journal, Way::Tickets];
 
-/// What the workers of callers of so many turns with these lists leave of a world of these amoebots.
+/// What the workers of callers of so many turns with these lists
+/// leave of a world of these amoebots.
 pub fn report_of<R: Abort + Threads + Wait + Sync, D: Decider, G: Gate>(
     rt: &R,
     alloc: Global,
@@ -46,7 +47,8 @@ pub fn report_of<R: Abort + Threads + Wait + Sync, D: Decider, G: Gate>(
     report_over(rt, alloc, way, decider, world, &lists, gate)
 }
 
-/// What the workers leave of a world. Each turn carries its caller and its number, and has the report's mark.
+/// What the workers leave of a world.
+/// Each turn carries its caller and its number, and has the report's mark.
 pub fn report_over<R: Abort + Threads + Wait + Sync, D: Decider, G: Gate>(
     rt: &R,
     alloc: Global,

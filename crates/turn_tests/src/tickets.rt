@@ -1,4 +1,5 @@
-//! A field on which commits draw their places, and its seats: before the first turn, and one turn after another.
+//! A field on which commits draw their places, and its seats: before the first turn,
+//! and one turn after another.
 ghost use Rattle.std.specs.Prelude.{◌≡◌, ◌≤◌, length, map, is_some, slice_set, None, IfOk, IsSome, OnOk};
 ghost use Rattle.std.specs.List.{All};
 ghost use Rattle.amoebot_state.specs.Configs.{bot_at};
@@ -223,7 +224,8 @@ fn left_in_turn(
     closed(rt, field, lists, expected, seats)
 }
 
-/// Two neighbours end with variable 0 at 1, and with two entries, as the machine leaves them where the journal is taken.
+/// Two neighbours end with variable 0 at 1, and with two entries,
+/// as the machine leaves them where the journal is taken.
 #[test]
 fn two_callers_draw_one_after_the_other_and_then_are_idle(rt: HostRuntime) -> Result<(), Fail> {
     let alloc = rt.alloc();

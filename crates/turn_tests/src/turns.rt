@@ -88,7 +88,8 @@ fn in_turn<R: Wait + Abort>(
     Ok((zero, one))
 }
 
-/// Commits the change of the first turn of caller 0, which is the first one of the journal, and frees the zone.
+/// Commits the change of the first turn of caller 0, which is the first one of the journal,
+/// and frees the zone.
 fn committed<R: Wait + Abort>(
     rt: &R,
     field: &Field<'_, Marker>,
@@ -105,7 +106,8 @@ fn committed<R: Wait + Abort>(
     release_settled(settled, field)
 }
 
-/// The first turn of each: that of caller 1 lies between the decision and the commit of caller 0, and does not come to the gate.
+/// The first turn of each: that of caller 1 lies between the decision and the commit of caller 0,
+/// and does not come to the gate.
 fn first_inside<R: Wait + Abort>(
     rt: &R,
     field: &Field<'_, Marker>,
@@ -134,8 +136,9 @@ fn first_inside<R: Wait + Abort>(
     Ok((committed(rt, field, claimed, change), one))
 }
 
-/// Caller 1 makes its first turn once caller 0 has decided, and its second one once caller 0 has committed. The gate is called in the
-/// two turns that come then.
+/// Caller 1 makes its first turn once caller 0 has decided,
+/// and its second one once caller 0 has committed.
+/// The gate is called in the two turns that come then.
 fn inside<R: Wait + Abort>(
     rt: &R,
     field: &Field<'_, Marker>,
@@ -252,8 +255,8 @@ pub fn are_marked(rt: &impl Abort, alloc: Global, last: &World) -> Result<(), Fa
     Ok(())
 }
 
-/// What the journal is of two neighbours, each with a caller of two turns. They end with variable 0 at 1, as the machine leaves them by
-/// the same steps.
+/// What the journal is of two neighbours, each with a caller of two turns.
+/// They end with variable 0 at 1, as the machine leaves them by the same steps.
 fn both_marked<R: Wait + Abort>(
     rt: &R,
     alloc: Global,
@@ -269,7 +272,8 @@ fn both_marked<R: Wait + Abort>(
     Ok(journal)
 }
 
-/// The steps of one turn after another: in its first turn a caller commits, and in its second one it is idle.
+/// The steps of one turn after another: in its first turn a caller commits,
+/// and in its second one it is idle.
 pub static IN_TURN: [(u8, u8); 4] = [(0, 20), (1, 20), (0, 19), (1, 19)];
 
 #[test]
@@ -279,7 +283,8 @@ fn two_callers_commit_one_after_the_other_and_then_are_idle(rt: HostRuntime) -> 
     Ok(())
 }
 
-/// Nine steps of caller 0, in which it decides; the first turn of caller 1; and then one turn after another.
+/// Nine steps of caller 0, in which it decides; the first turn of caller 1;
+/// and then one turn after another.
 static INSIDE: [(u8, u8); 5] = [(0, 9), (1, 2), (0, 11), (1, 20), (0, 19)];
 
 #[test]

@@ -19,7 +19,8 @@ pub(crate) fn seat_all<D: Decider>(
     requires callers { callers ≡ length seats.old.seats }
     requires all { All (λ seat. IsSome seat) seats.old.seats }
     ensures desks { IfOk result (λ desks. AreClear (λ seat. seat) turns seats.old.seats desks.items) }
-    ensures out { IfOk result (λ desks. seats.new ≡ record seats.old { seats = map (λ _. None) desks.items }) }
+    ensures out { IfOk result (λ desks.
+        seats.new ≡ record seats.old { seats = map (λ _. None) desks.items }) }
 {
     let mut desks = Vec::new(alloc);
     for _caller in 0..callers {
@@ -31,7 +32,8 @@ pub(crate) fn seat_all<D: Decider>(
     Ok(desks)
 }
 
-/// Gives all seats back, and keeps the answers of the turns, for which there is room. It takes no memory.
+/// Gives all seats back, and keeps the answers of the turns, for which there is room.
+/// It takes no memory.
 pub(crate) fn clear<D: Decider>(
     seats: &mut Seats<D>,
     mut desks: Vec<Desk<Seat<D>, Turn>>,

@@ -5,8 +5,9 @@ use activation::Gate;
 use std::sync::atomic::{AtomicBool, AtomicU64, Ordering};
 use std::thread;
 
-/// A gate at which callers wait for one another for a while. It shows that workers run beside one another: one after another they would
-/// not meet. What it has counted is shared by the threads and said by no contract.
+/// A gate at which callers wait for one another for a while.
+/// It shows that workers run beside one another: one after another they would not meet.
+/// What it has counted is shared by the threads and said by no contract.
 #[derive(Drop)]
 pub struct MeetGate {
     callers: u8,
@@ -45,7 +46,8 @@ impl MeetGate {
         }
     }
 
-    /// Whether every caller came at least once, and each call found all callers in its turn, or past it, within its looks.
+    /// Whether every caller came at least once, and each call found all callers in its turn,
+    /// or past it, within its looks.
     pub fn met(&self) -> bool {
         self.have_reached(1) && !self.missed.load(Ordering::SeqCst)
     }
@@ -60,8 +62,9 @@ impl MeetGate {
 }
 
 impl Gate for MeetGate {
-    /// Notes that the caller has come to this turn, and looks until all callers have, or the looks are used up. A number that is no
-    /// caller's is ignored.
+    /// Notes that the caller has come to this turn, and looks until all callers have,
+    /// or the looks are used up.
+    /// A number that is no caller's is ignored.
     fn claimed(&self, caller: u8, turn: u32) {
         let count = u64::from(turn) + 1;
         match self.counts.get(usize::from(caller)) {

@@ -24,7 +24,8 @@ pub type Turns = turn_desks::Turns<Turn>;
 /// What the workers leave: the report, and for each turn what its activation answered.
 pub type Worked = turn_desks::Worked<Turn>;
 
-/// Makes the turns of all callers, each caller's in their order by a worker of its own. All memory is taken before the first claim.
+/// Makes the turns of all callers, each caller's in their order by a worker of its own.
+/// All memory is taken before the first claim.
 pub fn work<R: Threads + Wait + Sync, D: Decider, G: Gate>(
     rt: &R,
     alloc: Global,
@@ -34,7 +35,8 @@ pub fn work<R: Threads + Wait + Sync, D: Decider, G: Gate>(
     gate: &G,
 ) -> Result<Worked, NoMemory>
     requires { All (All (λ id. IsSome (bot_at world id))) lists.now.ids }
-    ensures reached { IfOk result (λ worked. Reached (setup_of_terms D.verdict (field_terms decider.now world lists.now)) worked.report) }
+    ensures reached { IfOk result (λ worked.
+        Reached (setup_of_terms D.verdict (field_terms decider.now world lists.now)) worked.report) }
     ensures good { IfOk result (λ worked. Good (D.verdict decider.now) world lists.now worked.report) }
     ensures turns { IfOk result (λ worked. AreTurnsOf worked.report.turns worked.turns) }
 {

@@ -1,7 +1,8 @@
 //! Drawn shapes, each with connected and hexagon written down by hand.
 
-/// A shape, drawn row by row from the least y on: `o` is a contracted amoebot, `<` the tail and then `=` the head of an expanded
-/// one, `.` an empty node. The area is as large as the drawing and begins at (x0, y0).
+/// A shape, drawn row by row from the least y on: `o` is a contracted amoebot,
+/// `<` the tail and then `=` the head of an expanded one, `.` an empty node.
+/// The area is as large as the drawing and begins at (x0, y0).
 pub struct Shape {
     pub x0: i16,
     pub y0: i16,

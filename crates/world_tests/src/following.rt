@@ -1,4 +1,5 @@
-//! Tests of `Serial::follow`: the step of an entry without its old values is made, or there is none.
+//! Tests of `Serial::follow`: the step of an entry without its old values is made,
+//! or there is none.
 
 ghost use Rattle.std.specs.Prelude.{◌≡◌, ◌<◌};
 ghost use Rattle.amoebot_state.specs.Refusals.{IsBotInRange};

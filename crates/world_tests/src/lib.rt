@@ -1,4 +1,5 @@
-//! Tests of worlds: the lattice, worlds and what is shown of them, operations, measures of shapes, and entries.
+//! Tests of worlds: the lattice, worlds and what is shown of them, operations, measures of shapes,
+//! and entries.
 #![tactic(auto)]
 
 #[cfg(test)]

@@ -206,7 +206,8 @@ fn is_in_hexagon(node: Node) -> bool {
     is_within || is_on_side_0 || is_on_side_1 || is_on_side_2
 }
 
-/// The large shapes: how many nodes each has, whether it is connected, whether it is a hexagon, and its name.
+/// The large shapes: how many nodes each has, whether it is connected, whether it is a hexagon,
+/// and its name.
 fn large_shapes() -> [(Large, u16, bool, bool, &'static str); 6] {
     [
         (Large::Filled, 4096, true, false, "filled"),

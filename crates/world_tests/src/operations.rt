@@ -70,7 +70,8 @@ fn found(alloc: Global, bots: &[Bot]) -> Result<Found, Fail>
     Ok(world.found(0))
 }
 
-/// What an activation changes: writes of the first variable, each through a port or without one, and then a movement.
+/// What an activation changes: writes of the first variable, each through a port or without one,
+/// and then a movement.
 fn activation(
     found: &Found,
     writes: &[(Option<Port>, i32)],
@@ -312,8 +313,9 @@ fn call_failure(site: &mut Site, call: Call, port: Port) -> Option<Failure> {
     }
 }
 
-/// For a contracted amoebot on (7, 3), at the area's edge, with a contracted neighbour on (6, 3) and one that is expanded to
-/// (7, 5) from (7, 4): which condition names the failure, of those that fail together.
+/// For a contracted amoebot on (7, 3), at the area's edge,
+/// with a contracted neighbour on (6, 3) and one that is expanded to (7, 5) from (7, 4):
+/// which condition names the failure, of those that fail together.
 const OF_CONTRACTED: [(Call, End, u8, Failure); 25] = [
     (Call::Connected, End::Tail, 3, Failure::NoPort),
     (Call::Connected, End::Head, 6, Failure::NoPort),
@@ -425,8 +427,9 @@ fn nodes_outside_the_area_belong_to_no_arc(rt: HostRuntime) -> Result<(), Fail> 
     Ok(())
 }
 
-/// A site answers each question about a pair as one that searches does, also for directions that there are none. It searches once a
-/// movement was tried, and one that fails changes nothing.
+/// A site answers each question about a pair as one that searches does,
+/// also for directions that there are none.
+/// It searches once a movement was tried, and one that fails changes nothing.
 fn answers_alike(rt: &impl Abort, found: &Found) {
     let site = Site::new(found);
     let mut searching = Site::new(found);

@@ -1,4 +1,5 @@
-//! The two measures of a shape once more, slow and by their definitions, to compare the searches with.
+//! The two measures of a shape once more, slow and by their definitions,
+//! to compare the searches with.
 //! They share no line with the searches, and have no clause.
 
 ghost use Rattle.tri_lattice.specs.Lattice.{IsNear};
@@ -11,7 +12,8 @@ use tri_lattice::{Area, Node};
 /// A step in each direction.
 const STEPS: [(i32, i32); 6] = [(1, 0), (0, 1), (-1, 1), (-1, 0), (0, -1), (1, -1)];
 
-/// Whether the shape is connected: the marked nodes grow from the head of amoebot 0 until none is beside them, and are all.
+/// Whether the shape is connected: the marked nodes grow from the head of amoebot 0 until none
+/// is beside them, and are all.
 pub(crate) fn is_connected(alloc: Global, world: &World) -> Result<bool, NoMemory> {
     if world.bots() == 0 {
         return Ok(true);
@@ -96,7 +98,8 @@ fn are_marked(world: &World, marks: &[bool]) -> bool {
     true
 }
 
-/// Whether the shape is a hexagon: all amoebots are contracted, and it is one round the node of some amoebot.
+/// Whether the shape is a hexagon: all amoebots are contracted,
+/// and it is one round the node of some amoebot.
 pub(crate) fn is_hexagon(alloc: Global, world: &World) -> Result<bool, NoMemory> {
     if !are_contracted(world) {
         return Ok(false);
@@ -119,7 +122,8 @@ fn are_contracted(world: &World) -> bool {
     true
 }
 
-/// Whether the shape is a hexagon of some radius round a node. A greater one than 64 has no room in an area.
+/// Whether the shape is a hexagon of some radius round a node.
+/// A greater one than 64 has no room in an area.
 fn is_centre(alloc: Global, world: &World, centre: Node) -> Result<bool, NoMemory> {
     for radius in 1..65u16 {
         if is_full(world, centre, radius) && is_hexagon_at(alloc, world, centre, radius)? {
@@ -134,7 +138,8 @@ fn is_full(world: &World, centre: Node, radius: u16) -> bool {
     is_within(world, centre, radius) && is_filled(world, centre, radius)
 }
 
-/// Whether such a shape is a hexagon: of the ring it has none, all, or some that follow one another.
+/// Whether such a shape is a hexagon: of the ring it has none, all,
+/// or some that follow one another.
 fn is_hexagon_at(
     alloc: Global,
     world: &World,

@@ -1,4 +1,5 @@
-//! Tests of `serial_model` over these worlds: one turn, and entries that are a run or stop to be one.
+//! Tests of `serial_model` over these worlds: one turn,
+//! and entries that are a run or stop to be one.
 
 ghost use Rattle.std.specs.Prelude.{◌≡◌, ◌<◌, length, IfOk};
 ghost use Rattle.std.specs.List.{All};

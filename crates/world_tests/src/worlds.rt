@@ -379,7 +379,8 @@ fn a_neighbourhood_is_made_of_its_cells(rt: HostRuntime) -> Result<(), Fail> {
     Ok(())
 }
 
-/// The zone of an expanded amoebot with a neighbour behind its tail, in the order in which its cells are read.
+/// The zone of an expanded amoebot with a neighbour behind its tail,
+/// in the order in which its cells are read.
 const TRAIN_CELLS: [(CellName, Cell); 12] = [
     (CellName::Body(0), Cell::Body(STRETCHED)),
     (CellName::Spot(Node { x: 3, y: 3 }), Cell::Spot(Some(0))),
@@ -410,7 +411,8 @@ fn a_zone_is_found_while_its_cells_are_read(rt: HostRuntime) -> Result<(), Fail>
     Ok(())
 }
 
-/// Whether a zone that is kept and one that is made anew both give these cells one by one, and then no more.
+/// Whether a zone that is kept and one that is made anew both give these cells one by one,
+/// and then no more.
 fn both_read(area: &Area, id: u16, cells: &[(CellName, Cell)]) -> bool
     requires { AreReadInOrder area.now id cells.now }
 {

@@ -41,7 +41,8 @@ static ZONE_1: [CellName; 9] = [
     CellName::Body(0),
 ];
 
-/// The seat's next turn, the first one, is refused at this cell, which caller 0 holds for its first turn.
+/// The seat's next turn, the first one, is refused at this cell,
+/// which caller 0 holds for its first turn.
 fn refused_at(
     rt: &impl Abort,
     field: &Field<'_, Idler>,
@@ -119,7 +120,8 @@ fn one_follows(
     Ok(one)
 }
 
-/// Caller 1 is refused while caller 0 holds its zone, and claims its own in its next turn, once caller 0 has released it.
+/// Caller 1 is refused while caller 0 holds its zone, and claims its own in its next turn,
+/// once caller 0 has released it.
 fn takes_turns(
     rt: &impl Abort,
     field: &Field<'_, Idler>,
@@ -199,8 +201,9 @@ fn a_zone_that_another_holds_is_refused_until_it_is_released(rt: HostRuntime) ->
     leaves_all(&rt, alloc, world, &lists, &before)
 }
 
-/// Caller 0 holds so many cells of the zone of amoebot 0. The claim of amoebot 1 is refused at this cell, and frees what it won: caller
-/// 0 then wins the rest of its zone.
+/// Caller 0 holds so many cells of the zone of amoebot 0.
+/// The claim of amoebot 1 is refused at this cell, and frees what it won:
+/// caller 0 then wins the rest of its zone.
 fn refuses_at(
     rt: &impl Abort,
     field: &Field<'_, Idler>,

@@ -102,7 +102,8 @@ pub fn whole<W: Manner>(
     Ok(seal(held))
 }
 
-/// The turn gets its mark, which is to be this caller's in this turn, at 0 entries; and its zone is freed.
+/// The turn gets its mark, which is to be this caller's in this turn, at 0 entries;
+/// and its zone is freed.
 pub fn freed(
     rt: &impl Abort,
     field: &Field<'_, Idler>,

@@ -1,4 +1,5 @@
-//! A caller looks at the word of a node, another one makes its whole turn, and then the first one tries the word that it noted.
+//! A caller looks at the word of a node, another one makes its whole turn,
+//! and then the first one tries the word that it noted.
 ghost use Rattle.std.specs.Prelude.{◌≡◌, IfOk};
 ghost use Rattle.claim_rule.specs.Seating.{AreOf};
 ghost use Rattle.claim_rule.specs.Tokens.{IsOf};
@@ -14,7 +15,8 @@ use std::process::Abort;
 use std::test::Fail;
 use tri_lattice::Node;
 
-/// The node that the zones of amoebot 0 at (2, 3) and of amoebot 1 at (4, 3) share, and no other cell.
+/// The node that the zones of amoebot 0 at (2, 3) and of amoebot 1 at (4, 3) share,
+/// and no other cell.
 const SHARED: Node = Node { x: 3, y: 3 };
 
 /// The cells of the zone of amoebot 1 before that node.
@@ -104,7 +106,8 @@ fn overtaken<D: Decider>(
     Ok(noted)
 }
 
-/// A caller has won the cells before the shared node, which has no occupant and no stamp, and notes it.
+/// A caller has won the cells before the shared node, which has no occupant and no stamp,
+/// and notes it.
 fn shared_is_noted<D: Decider>(
     rt: &impl Abort,
     field: &Field<'_, D>,
@@ -167,7 +170,8 @@ fn first_try_wins(
     }
 }
 
-/// The commit has changed the node: the first try finds its new word, and the second wins it with its occupant.
+/// The commit has changed the node: the first try finds its new word,
+/// and the second wins it with its occupant.
 fn second_try_wins(
     rt: &impl Abort,
     field: &Field<'_, Expander>,

@@ -11,7 +11,8 @@ use std::alloc::Global;
 use std::process::Abort;
 use std::test::Fail;
 
-/// Takes the seats that are left, of which there are so many of sixteen, and gives them back, the last one first.
+/// Takes the seats that are left, of which there are so many of sixteen, and gives them back,
+/// the last one first.
 fn take_and_give(rt: &impl Abort, seats: &mut Seats<Idler>, left: u8) -> Result<(), Fail>
     requires { left ≤ 16 }
     ensures { OnOk result (seats.new ≡ seats.old) }

@@ -19,7 +19,8 @@ use std::alloc::Global;
 use std::process::Abort;
 use std::test::Fail;
 
-/// How far a caller has come in its turn: it holds cells of its zone, or was refused this one, which had this tag.
+/// How far a caller has come in its turn: it holds cells of its zone, or was refused this one,
+/// which had this tag.
 type Walker<W> = Result<Held<Idler, W>, (Stopped<Idler, W>, CellName, Tag)>;
 
 /// Whether the caller has a cell to try.
@@ -118,8 +119,8 @@ fn free<W: Manner>(field: &Field<'_, Idler, W>, mut freeing: Freeing<Idler, W>)
     end(freeing);
 }
 
-/// A caller of the core stands where the walker does: it holds as many cells, and has a cell to try, or holds its whole zone, or found
-/// the same tag at the same cell.
+/// A caller of the core stands where the walker does: it holds as many cells,
+/// and has a cell to try, or holds its whole zone, or found the same tag at the same cell.
 fn stands<W: Manner>(
     rt: &impl Abort,
     field: &Field<'_, Idler, W>,
@@ -175,8 +176,9 @@ fn steps(core: &mut Core<'_, Idler>, caller: u8, number: u32)
     }
 }
 
-/// Two callers beside each other make the claim steps of this word, of which there are eight at most, the lowest bit first: 0 for
-/// caller 0, 1 for caller 1. The core makes the same steps.
+/// Two callers beside each other make the claim steps of this word,
+/// of which there are eight at most, the lowest bit first: 0 for caller 0, 1 for caller 1.
+/// The core makes the same steps.
 fn walked<W: Manner>(
     field: &Field<'_, Idler, W>,
     core: &mut Core<'_, Idler>,
@@ -232,8 +234,9 @@ fn has_marks(rt: &impl Abort, core: Core<'_, Idler>, zero: Mark, one: Mark) -> R
     Ok(())
 }
 
-/// The two callers make the claim steps of this word. Then caller 0 finishes its turn, and then caller 1. The same steps of the core
-/// leave the same marks.
+/// The two callers make the claim steps of this word.
+/// Then caller 0 finishes its turn, and then caller 1.
+/// The same steps of the core leave the same marks.
 fn agrees<W: Manner>(
     rt: &impl Abort,
     field: &Field<'_, Idler, W>,
@@ -255,8 +258,9 @@ fn agrees<W: Manner>(
     has_marks(rt, core, zero, one)
 }
 
-/// The world of two amoebots beside each other and of no further node, and one turn for each of them. The two cells of nodes and the
-/// two of bodies are the zone of each.
+/// The world of two amoebots beside each other and of no further node,
+/// and one turn for each of them.
+/// The two cells of nodes and the two of bodies are the zone of each.
 fn two_beside(alloc: Global) -> Result<(World, Lists), Fail>
     ensures callers { IfOk result (λ made. length made.1.ids ≡ 2) }
     ensures bots { IfOk result (λ made. All (All (λ id. IsSome (bot_at made.0 id))) made.1.ids) }
@@ -364,7 +368,8 @@ fn ticket_field_of<'d>(
     }
 }
 
-/// The same over a field of this world on which commits draw their places, so that a node is claimed as a body is.
+/// The same over a field of this world on which commits draw their places,
+/// so that a node is claimed as a body is.
 fn seated_by_ticket(
     rt: &impl Abort,
     alloc: Global,
@@ -380,7 +385,8 @@ fn seated_by_ticket(
     seated(rt, alloc, &field, lists, &mut seats, steps)
 }
 
-/// Every interleaving of the claim steps of two zones of the same four cells, and every beginning of one.
+/// Every interleaving of the claim steps of two zones of the same four cells,
+/// and every beginning of one.
 fn each_agrees(rt: &impl Abort, alloc: Global, way: Way) -> Result<(), Fail> {
     for count in 0u32..9 {
         for word in 0..1u32 << count {

@@ -25,7 +25,8 @@ static AT_EDGE: [CellName; 6] = [
     CellName::Spot(Node { x: 7, y: 2 }),
 ];
 
-/// The zone of amoebot 0 whose tail is at (3, 3) and whose head is at (4, 3), with an amoebot at each node beside it.
+/// The zone of amoebot 0 whose tail is at (3, 3) and whose head is at (4, 3),
+/// with an amoebot at each node beside it.
 static NINETEEN: [CellName; 19] = [
     CellName::Body(0),
     CellName::Spot(Node { x: 4, y: 3 }),
