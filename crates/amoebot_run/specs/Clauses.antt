@@ -15,9 +15,11 @@ use Rattle.commands.specs.Reads.{Read, IsReading}
 abbrev pub asked : List (String Global) → Option Command
 asked words = command_of (map string_bytes words)
 
--- what the input came to for a command: a source came from the one state to the other by it, within the command's limit
+-- what the input came to for a command: a source came from the one state to the other by it,
+-- within the command's limit
 abbrev pub CameTo : {S : Type 0} → SourceOf S → Option Command → S → S → Read → Type 0
-CameTo source command old new = IsReading source.left source.gives source.fails source.faults (limit_for command) old new
+CameTo source command old new =
+    IsReading source.left source.gives source.fails source.faults (limit_for command) old new
 
 -- a text was written whole, and nothing else was
 abbrev pub WroteAll : {K : Type 0} → SinkOf K → K → K → List ℕ → Type 0

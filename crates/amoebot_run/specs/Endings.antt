@@ -59,7 +59,8 @@ IsOutsideFault (status.Differs place) = ⊥
 abbrev pub IsUnwritten : Status → Type 0
 IsUnwritten s = (s ≡ status.WriteFault) ⊎ (s ≡ status.NoMemory)
 
--- the call answers what is owed: its status; and where at most one report may be told, or one text, its report and its text
+-- the call answers what is owed: its status; and where at most one report may be told, or one text,
+-- its report and its text
 pub record IsAnswered
     (command : Option Command) (read : Read) (s : Status) (report : Option Report) (text : List ℕ)
     (Writes : List ℕ → Type 0) (ended : Status) (left : Option Report)
@@ -70,15 +71,18 @@ pub record IsAnswered
 
 -- What the ending of a call comes to, by its command and by what is owed for it.
 -- `Has` says that the input has these bytes, and `Writes` that a text and nothing else was written.
--- `ReadFails`, `WriteFails` and `Untouched` are the causes of the three statuses that no document owes.
--- `IsFault` holds of those with which the call may end, and `IsOutage` of those with which it may end without a read.
+-- `ReadFails`, `WriteFails` and `Untouched` are the causes of the three
+-- statuses that no document owes.
+-- `IsFault` holds of those with which the call may end,
+-- and `IsOutage` of those with which it may end without a read.
 pub record EndingTells
     (command : Option Command) (Has Writes : List ℕ → Type 0) (ReadFails WriteFails Untouched : Type 0)
     (IsFault IsOutage : Status → Type 0) (ended : Status) (left : Option Report)
     : Type 0 where
   -- a report comes exactly with Done of `run`, `interleave`, `tickets` and `sample`
   pub report : IsSome left ↔ ((ended ≡ status.Done) × MakesTurns command)
-  -- What is owed for the bytes of the input is what the call answers, unless it is out of memory or a read or a write fails:
+  -- What is owed for the bytes of the input is what the call answers,
+  -- unless it is out of memory or a read or a write fails:
   -- the status, and where the input decides what is written, the report and the text.
   -- With at most one list it does so for `run` and `tickets`.
   pub determined : (document : List ℕ) (s : Status) (report : Option Report) (text : List ℕ)
@@ -86,28 +90,35 @@ pub record EndingTells
       → length document ≤ limit_for command
       → IsOwed command (whole document) s report text
       → IsAnswered command (whole document) s report text Writes ended left ⊎ IsFault ended
-  -- What is owed where nothing is read is what the call answers; no read can fail there. For `sample` that is the status and the text.
+  -- What is owed where nothing is read is what the call answers; no read can fail there.
+  -- For `sample` that is the status and the text.
   pub determined_unread : (s : Status) (report : Option Report) (text : List ℕ)
       → IsOwed command nothing s report text
       → IsAnswered command nothing s report text Writes ended left ⊎ IsOutage ended
   -- where the words are no command, only a write that fails or being out of memory hides that
   pub words : ended ≡ status.Words → command ≡ None
   pub no_command : command ≡ None → (ended ≡ status.Words) ⊎ IsOutage ended
-  -- a fault is that of the object that was handed in, and where it was out of memory nothing was written
+  -- a fault is that of the object that was handed in, and where it was
+  -- out of memory nothing was written
   pub read_fault : ended ≡ status.ReadFault → ReadFails
   pub write_fault : ended ≡ status.WriteFault → WriteFails
   pub no_memory : ended ≡ status.NoMemory → Untouched
   -- a command that reads no document is done, and of `sample` the six lines are written
-  pub complete_unread : (c : Command) → command ≡ Some c → ReadsNothing (Some c) → (ended ≡ status.Done) ⊎ IsOutage ended
+  pub complete_unread : (c : Command) → command ≡ Some c
+      → ReadsNothing (Some c) → (ended ≡ status.Done) ⊎ IsOutage ended
   pub sample : (seed : ℕ)
       → command ≡ Some (Sample seed)
       → ((ended ≡ status.Done) × Writes (six_lines seed)) ⊎ IsOutage ended
 
--- What a report comes with: the command, the document that was read to its end, of whose run it is, and its text.
+-- What a report comes with: the command, the document that was read to its end, of whose run it is,
+-- and its text.
 -- That text was written, and nothing else.
--- Or the number of a sample, of whose run it is, and the six lines, which were written and nothing else, where nothing was read.
-pub data IsReportOfCall (command : Option Command) (Reads : Read → Type 0) (Writes : List ℕ → Type 0) (report : Report) : Type 0 where
-  of_document : (c : DocumentCommand) (document text : List ℕ) → command ≡ Some (Document c) → Reads (whole document)
+-- Or the number of a sample, of whose run it is, and the six lines,
+-- which were written and nothing else, where nothing was read.
+pub data IsReportOfCall (command : Option Command) (Reads : Read → Type 0)
+    (Writes : List ℕ → Type 0) (report : Report) : Type 0 where
+  of_document : (c : DocumentCommand) (document text : List ℕ)
+      → command ≡ Some (Document c) → Reads (whole document)
       → IsRunOfDocument c document report text → Writes text → IsReportOfCall command Reads Writes report
   of_sample : (seed : ℕ) (text : List ℕ) → command ≡ Some (Sample seed) → Reads nothing
       → IsRunOfSample seed report text → Writes text → IsReportOfCall command Reads Writes report

@@ -34,11 +34,13 @@ use Rattle.amoebot_run.specs.Working.{HasTickets, HasTurns}
 
 -- ---- what is written
 
--- A text was written whole, and the call ends with this status, this report and what became of the turns; or a write of it failed.
+-- A text was written whole, and the call ends with this status,
+-- this report and what became of the turns; or a write of it failed.
 pub data IsEndOfWriting
     {K : Type 0} (sink : SinkOf K) (old new : K)
     (s : Status) (report : Option Report)
-    (turns : Option (List (List (Turn ByJournal)))) (tickets : Option (List (List (Turn ByTicket)))) (text : List ℕ)
+    (turns : Option (List (List (Turn ByJournal))))
+    (tickets : Option (List (List (Turn ByTicket)))) (text : List ℕ)
     : Ended → Type 0 where
   all : WroteAll sink old new text
       → IsEndOfWriting sink old new s report turns tickets text
@@ -49,7 +51,8 @@ pub data IsEndOfWriting
 
 -- ---- the first part
 
--- the call has ended in a way in which it may end, and has its turns; or nothing was written, and workers are to run lists
+-- the call has ended in a way in which it may end, and has its turns; or nothing was written,
+-- and workers are to run lists
 pub data IsBegun
     (command : Option Command) (Reads : Read → Type 0) (Writes Cuts : List ℕ → Type 0) (Untouched : Type 0)
     : Begun → Type 0 where
@@ -58,7 +61,8 @@ pub data IsBegun
       → HasTurns command ended.status ended.report ended.turns
       → HasTickets command ended.status ended.report ended.tickets
       → IsBegun command Reads Writes Cuts Untouched (begun.Ended ended)
-  is_to_run : (run : Prepared) (read : Read) → Untouched → Reads read → IsReadWithinLimit read → IsPrepared command read run
+  is_to_run : (run : Prepared) (read : Read) → Untouched → Reads read
+      → IsReadWithinLimit read → IsPrepared command read run
       → IsBegun command Reads Writes Cuts Untouched (begun.Run run)
 
 -- the call has ended, with such a status
@@ -84,18 +88,24 @@ HasTold maker.Workers marks (turned.Tickets tickets) = ⊥
 HasTold maker.Tickets marks (turned.Journal turns) = ⊥
 HasTold maker.Tickets marks (turned.Tickets tickets) = AreTurnsOf marks tickets
 
--- the report is a good one of the lists' turns under the program, from the shape on, and the steps of those who made them give it
-pub record IsMade (m : Maker) (p : Program) (start : Config) (lists : CallerLists) (made : Made) : Type 0 where
+-- the report is a good one of the lists' turns under the program, from the shape on,
+-- and the steps of those who made them give it
+pub record IsMade (m : Maker) (p : Program) (start : Config)
+    (lists : CallerLists) (made : Made) : Type 0 where
   pub good : Good (verdict_shown p) start lists made.report
   pub reached : ReachedBy m (setup (verdict_shown p) start lists) made.report
   pub told : HasTold m made.report.turns made.turns
 
 -- ---- the last part
 
--- A text that tells the report was written, or a write of it failed; or it was out of memory and nothing was written.
-pub data IsEndedRun {K : Type 0} (sink : SinkOf K) (old new : K) (Text : List ℕ → Type 0) (made : Made) : Ended → Type 0 where
+-- A text that tells the report was written, or a write of it failed;
+-- or it was out of memory and nothing was written.
+pub data IsEndedRun {K : Type 0} (sink : SinkOf K) (old new : K)
+    (Text : List ℕ → Type 0) (made : Made) : Ended → Type 0 where
   told : (text : List ℕ) (ended : Ended) → Text text
-      → IsEndOfWriting sink old new status.Done (Some made.report) (journal_turns made.turns) (ticket_turns made.turns) text ended
+      → IsEndOfWriting sink old new status.Done (Some made.report)
+      (journal_turns made.turns) (ticket_turns made.turns) text ended
       → IsEndedRun sink old new Text made ended
   untold : new ≡ old
-      → IsEndedRun sink old new Text made (record { status = status.NoMemory; report = None; turns = None; tickets = None })
+      → IsEndedRun sink old new Text made
+      (record { status = status.NoMemory; report = None; turns = None; tickets = None })

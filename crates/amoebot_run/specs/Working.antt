@@ -16,7 +16,8 @@ use Rattle.commands.specs.declared.status.Status.TheVariants as status
 abbrev pub AreOfReport : {W : Type 0} → Option Report → List (List (Turn W)) → Type 0
 AreOfReport report turns = (told : Report) × (report ≡ Some told) × AreTurnsOf told.turns turns
 
--- what became of the turns comes exactly where workers made them and the command is done; then it is that of the report's turns
+-- what became of the turns comes exactly where workers made them and the command is done;
+-- then it is that of the report's turns
 pub record HasTurns (c : Option Command) (s : Status) (report : Option Report)
     (turns : Option (List (List (Turn ByJournal)))) : Type 0 where
   pub exactly : IsSome turns ↔ ((s ≡ status.Done) × IsWorked c)

@@ -34,8 +34,8 @@ pub enum Begun {
 }
 
 /// What is written where the words are no command.
-const USAGE: &str =
-    "usage: run / interleave / replay / check / measure / show NAME / sample NUMBER / renew / rewind NUMBER / rounds / elect / tickets\n";
+const USAGE: &str = "usage: run / interleave / replay / check / measure / show NAME / \
+    sample NUMBER / renew / rewind NUMBER / rounds / elect / tickets\n";
 
 /// What is written where a read failed.
 const READ_FAULT: &str = "read fault\n";

@@ -1,4 +1,5 @@
-//! The top calls. They may wait: all that they call returns, apart from `make_turns`, which starts the workers.
+//! The top calls.
+//! They may wait: all that they call returns, apart from `make_turns`, which starts the workers.
 
 ghost use Rattle.std.specs.Prelude.{◌≡◌, ◌≤◌, ◌⊎◌, ℕ, true, List, length, IfSome, Some};
 ghost use Rattle.std.specs.List.{list_any};
@@ -28,7 +29,8 @@ use std::alloc::Global;
 use std::sync::Wait;
 use std::thread::Threads;
 
-/// Does what the words ask for: it reads a document of the command's form, if the command reads one, and writes its text.
+/// Does what the words ask for: it reads a document of the command's form,
+/// if the command reads one, and writes its text.
 ///
 /// The words are judged first. Then the input is read to its end, and the document is judged.
 /// Then the command does its work, and the whole text is made before the first byte is written.
@@ -42,7 +44,8 @@ pub fn run<R: Threads + Wait + Sync, S: Source, K: Sink, G: Gate>(
     out: &mut K,
     gate: &G,
 ) -> Ended
-    // What is owed for what was read was written whole; or a write of it failed; or it was out of memory and nothing was written.
+    // What is owed for what was read was written whole; or a write of it failed;
+    // or it was out of memory and nothing was written.
     ensures ending { IsEnding (asked words.now)
         (CameTo S.Source (asked words.now) input.old input.new)
         (WroteAll K.Sink out.old out.new)
@@ -50,19 +53,23 @@ pub fn run<R: Threads + Wait + Sync, S: Source, K: Sink, G: Gate>(
         (out.new ≡ out.old)
         result.status result.report }
 
-    // What became of each turn comes exactly with Done of `run` and `sample`, and its mark is the report's.
+    // What became of each turn comes exactly with Done of `run` and `sample`,
+    // and its mark is the report's.
     ensures turns { HasTurns (asked words.now) result.status result.report result.turns }
     // So it is of `tickets`. Its turns are answers of activations whose commits draw their places.
     ensures tickets { HasTickets (asked words.now) result.status result.report result.tickets }
 
-    // Where a word begins with `-`, being out of memory does not hide that the words are no command.
+    // Where a word begins with `-`, being out of memory does not hide
+    // that the words are no command.
     ensures dash { list_any (λ word. begins_with_dash (string_bytes word)) words.now ≡ true
         → (result.status ≡ Status.Words) ⊎ (result.status ≡ Status.WriteFault) }
     // Nothing is read where the words are no command, nor for a command that reads no document.
     ensures unread { ReadsNothing (asked words.now) → input.new ≡ input.old }
 
-    // Where there is a report, the input was read to its end, the bytes read are a document, and the report is a good one of its run.
-    // Its text was written. Or the report is a good one of the sample's run, and the six lines that tell so were written.
+    // Where there is a report, the input was read to its end, the bytes read are a document,
+    // and the report is a good one of its run.
+    // Its text was written.
+    // Or the report is a good one of the sample's run, and the six lines that tell so were written.
     ensures headline { IfSome result.report (IsReportOfCall (asked words.now)
         (CameTo S.Source (asked words.now) input.old input.new)
         (WroteAll K.Sink out.old out.new)) }
@@ -71,12 +78,15 @@ pub fn run<R: Threads + Wait + Sync, S: Source, K: Sink, G: Gate>(
     ensures complete { (c : DocumentCommandValue) (document : List ℕ) (a : Contents)
         → asked words.now ≡ Some (Command.Document c) → S.left input.old ≡ Some document
         → length document ≤ limit_for (Some (Command.Document c)) → IsDocumentOf c document a
-        → IsServed a c (WroteAll K.Sink out.old out.new) result.status result.report ⊎ IsOutsideFault result.status }
-    // What `ending` comes to: when a report comes, what decides status, report and text, and what causes each fault.
+        → IsServed a c (WroteAll K.Sink out.old out.new) result.status result.report
+        ⊎ IsOutsideFault result.status }
+    // What `ending` comes to: when a report comes, what decides status, report and text,
+    // and what causes each fault.
     ensures tells { EndingTells (asked words.now)
         (λ document. S.left input.old ≡ Some document)
         (WroteAll K.Sink out.old out.new)
-        (Rose (S.faults input.old) (S.faults input.new)) (Rose (K.faults out.old) (K.faults out.new)) (out.new ≡ out.old)
+        (Rose (S.faults input.old) (S.faults input.new))
+        (Rose (K.faults out.old) (K.faults out.new)) (out.new ≡ out.old)
         IsOutsideFault IsUnwritten
         result.status result.report }
 {
@@ -100,7 +110,8 @@ pub fn run<R: Threads + Wait + Sync, S: Source, K: Sink, G: Gate>(
     }
 }
 
-/// `run` over bytes in memory and without a gate. Each clause but `turns` and `tickets` follows from `ending`.
+/// `run` over bytes in memory and without a gate.
+/// Each clause but `turns` and `tickets` follows from `ending`.
 ///
 /// Where it is out of memory for a copy of the bytes, that is its status, whatever the words are.
 /// The sink is left as one write of the text or line leaves it.
@@ -111,7 +122,9 @@ pub fn run_text<R: Threads + Wait + Sync>(
     bytes: &[u8],
     out: &mut SureSink,
 ) -> Ended
-    // What is owed for the bytes was written whole; or it was out of memory and nothing was written. Bytes in memory have no faults.
+    // What is owed for the bytes was written whole; or it was out
+    // of memory and nothing was written.
+    // Bytes in memory have no faults.
     ensures ending { IsEnding (asked words.now)
         (IsReadingOf (limit_for (asked words.now)) bytes.now)
         (HasText out.old out.new) (λ _. ⊥) (out.new ≡ out.old)
@@ -127,7 +140,8 @@ pub fn run_text<R: Threads + Wait + Sync>(
     ensures complete { (c : DocumentCommandValue) (a : Contents)
         → asked words.now ≡ Some (Command.Document c)
         → length bytes.now ≤ limit_for (Some (Command.Document c)) → IsDocumentOf c bytes.now a
-        → IsServed a c (HasText out.old out.new) result.status result.report ⊎ (result.status ≡ Status.NoMemory) }
+        → IsServed a c (HasText out.old out.new) result.status result.report
+        ⊎ (result.status ≡ Status.NoMemory) }
     // What `ending` comes to. No read and no write can fail.
     ensures tells { EndingTells (asked words.now)
         (λ document. document ≡ bytes.now)

@@ -50,7 +50,8 @@ pub fn end_with_answer<K: Sink>(
     turns: Option<Turns>,
     tickets: Option<TicketTurns>,
 ) -> Ended
-    ensures { IsEndOfWriting K.Sink out.old out.new answer.status answer.report turns tickets answer.text result }
+    ensures { IsEndOfWriting K.Sink out.old out.new answer.status
+        answer.report turns tickets answer.text result }
 {
     match write_all(out, answer.text.bytes()) {
         Ok(()) => Ended {

@@ -1,4 +1,5 @@
-//! The last part of `run`: it makes the text of what workers have made, and writes it. It waits for nothing.
+//! The last part of `run`: it makes the text of what workers have made, and writes it.
+//! It waits for nothing.
 
 ghost use Rattle.claim_core.specs.Good.{Good};
 ghost use Rattle.action_meaning.specs.Verdicts.{verdict_shown};

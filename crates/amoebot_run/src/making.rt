@@ -32,7 +32,8 @@ pub enum MadeTurns {
     Tickets(TicketTurns),
 }
 
-/// Lets workers make the turns of the lists, from the world on. Each of them calls the gate in each turn that claims its whole zone.
+/// Lets workers make the turns of the lists, from the world on.
+/// Each of them calls the gate in each turn that claims its whole zone.
 pub fn make_turns<R: Threads + Wait + Sync, G: Gate>(
     rt: &R,
     alloc: Global,

@@ -13,7 +13,8 @@ use Rattle.amoebot_state.specs.Storage.{put_at}
 use Rattle.amoebot_state.specs.Configs.{Config, bot_of, occupant}
 use Rattle.amoebot_state.specs.Patches.{all_cells}
 
--- the number of a cell: the nodes of the area by their numbers, then the bodies by their ids; none for a node outside
+-- the number of a cell: the nodes of the area by their numbers, then the bodies by their ids;
+-- none for a node outside
 abbrev pub number : Extent → CellName → Option ℕ
 number a (name.Spot v) = index_of a v
 number a (name.Body i) = Some (a.w * a.h + i)

@@ -41,7 +41,12 @@ stepped verdict c r = record r { state = next (setup_of verdict r) c r.state }
 -- the core before the first step
 abbrev pub opening_core : {D : Type 0} → (D → Shown → Verdict) → D → Config → CallerLists → Running D
 opening_core verdict decider first lists =
-    record { decider = decider; first = first; lists = lists; state = opening (setup (verdict decider) first lists) }
+    record {
+      decider = decider;
+      first = first;
+      lists = lists;
+      state = opening (setup (verdict decider) first lists);
+    }
 
 -- the core after so many rounds, of which the last one is the first by which all callers have ended
 pub record IsFinished {D : Type 0} (verdict : D → Shown → Verdict) (old new : Running D) : Type 0 where
@@ -115,11 +120,13 @@ pub record StaysReleasing (old new : CoreCaller) : Type 0 where
   pub held : new.held.items ≡ old.held.items
 
 abbrev pub Frees : ℕ → CoreCaller → CoreCaller → Type 0
-Frees turns old new = (old.held.items ≡ [] → Begins turns (old.turn + 1) new) × (0 < length old.held.items → StaysReleasing old new)
+Frees turns old new = (old.held.items ≡ [] → Begins turns (old.turn + 1) new)
+    × (0 < length old.held.items → StaysReleasing old new)
 
 -- a caller that claims and holds some cells keeps what is known of its zone, in this area
 abbrev pub KeepsZone : Extent → CallerLists → ℕ → CoreCaller → Type 0
-KeepsZone a lists c s = s.phase ≡ phase.Claim → 0 < length s.held.items → s.zone ≡ reading a (bot_of_turn lists c s.turn) s.held.items
+KeepsZone a lists c s = s.phase ≡ phase.Claim → 0 < length s.held.items
+    → s.zone ≡ reading a (bot_of_turn lists c s.turn) s.held.items
 
 -- and so does each
 abbrev pub KeepZones : Extent → CallerLists → List CoreCaller → Type 0
@@ -140,8 +147,9 @@ state_of tags world journal holder seats marks =
       callers = callers_with seats marks.marks;
     }
 
--- what a core keeps: some steps led to its state, its world is the last one of the run, there is room in the journal for all turns that
--- have no mark yet, and the callers keep what is known of their zones
+-- what a core keeps: some steps led to its state, its world is the last one of the run,
+-- there is room in the journal for all turns that have no mark yet,
+-- and the callers keep what is known of their zones
 pub record IsCore (verdict : Shown → Verdict) (lists : CallerLists) (tags : List ℕ) (world : Config)
     (journal : Kept) (holder : Option ℕ) (seats : List CoreCaller) (marks : MarkLists) : Type 0 where
   pub setup : let g : Setup = record { verdict = verdict; world = journal.first; lists = lists } in IsSetup g

@@ -1,4 +1,5 @@
--- When a report is a good one of a run: its journal is a run of the model, and each mark tells what became of its turn.
+-- When a report is a good one of a run: its journal is a run of the model,
+-- and each mark tells what became of its turn.
 use Rattle.std.specs.Prelude.{◌≡◌, ◌≢◌, ℕ, ◌+◌, ◌<◌, ◌≤◌, List, length, slice_get, take}
 use Rattle.std.specs.List.{All, AllPairs, Contains}
 use Rattle.std.specs.declared.option.Option.{Option}
@@ -15,15 +16,17 @@ use Rattle.claim_core.specs.declared.marks.Mark.TheVariants as mark
 use Rattle.claim_core.specs.declared.report.Report.{Report}
 use Rattle.claim_core.specs.Turns.{CallerLists, MarkLists, bot_of_turn, marks_of}
 
--- the world at a place of a journal: the one that so many of its entries lead to from the first world, of which there is at
--- most one
-pub record IsWorldAt (f : Shown → Verdict) (first : Config) (entries : List Entry) (place : ℕ) (world : Config) : Type 0 where
+-- the world at a place of a journal: the one that so many of its entries lead to from the first
+-- world, of which there is at most one
+pub record IsWorldAt (f : Shown → Verdict) (first : Config)
+    (entries : List Entry) (place : ℕ) (world : Config) : Type 0 where
   pub within : place ≤ length entries
   pub reached : Run f first (take place entries) world
 
 -- what f decides on an amoebot in the world at a place
 abbrev pub HasVerdict : (Shown → Verdict) → Config → List Entry → ℕ → ℕ → Verdict → Type 0
-HasVerdict f first entries place bot v = (world : Config) × IsWorldAt f first entries place world × (f (shown world bot) ≡ v)
+HasVerdict f first entries place bot v =
+    (world : Config) × IsWorldAt f first entries place world × (f (shown world bot) ≡ v)
 
 -- a cell is in the zone of an amoebot in the world at a place
 abbrev pub HasInZone : (Shown → Verdict) → Config → List Entry → ℕ → ℕ → CellName → Type 0
@@ -36,7 +39,8 @@ pub record IsListed (lists : CallerLists) (e : Entry) : Type 0 where
   pub turn : e.turn < lists.turns
   pub bot : e.bot ≡ bot_of_turn lists e.caller e.turn
 
--- each entry is one of a turn of the lists, and the turns of one caller rise strictly along the journal
+-- each entry is one of a turn of the lists, and the turns of one caller
+-- rise strictly along the journal
 pub record Order (lists : CallerLists) (entries : List Entry) : Type 0 where
   pub listed : All (IsListed lists) entries
   pub rising : AllPairs (λ one later. one.caller ≡ later.caller → one.turn < later.turn) entries
@@ -69,8 +73,9 @@ pub record MayHold (f : Shown → Verdict) (first : Config) (lists : CallerLists
   pub in_zone : (by : Mark) × (mark_of_turn marks by_caller by_turn ≡ Some by)
       × HasInZone f first entries (place_of by) by_bot cell
 
--- what the mark of a caller's turn says is so: Done that the entry at the place is the turn's; Idle and Failed that this is the
--- verdict on the world at the place; Busy that the cell is in the amoebot's zone there and that the other turn may have held it
+-- what the mark of a caller's turn says is so: Done that the entry at the place is the turn's;
+-- Idle and Failed that this is the verdict on the world at the place;
+-- Busy that the cell is in the amoebot's zone there and that the other turn may have held it
 abbrev pub TurnOk : (Shown → Verdict) → Config → CallerLists → List Entry → MarkLists → ℕ → ℕ → Mark → Type 0
 TurnOk f first lists entries marks caller turn (mark.Done place) =
     (e : Entry) × (slice_get entries place ≡ Some e) × (e.caller ≡ caller) × (e.turn ≡ turn)
@@ -106,8 +111,8 @@ pub record AreMarks (has_marks : ℕ → ℕ → Type 0) (f : Shown → Verdict)
       → mark_of_turn marks e.caller e.turn ≡ Some (mark.Done place)
   pub rising : All (AllPairs (λ one later. place_after one ≤ place_of later)) marks.marks
 
--- the journal is a run of the model from the valid world w0 to the report's world, its entries are those of turns of the lists
--- in their order, and the marks are those of the turns
+-- the journal is a run of the model from the valid world w0 to the report's world,
+-- its entries are those of turns of the lists in their order, and the marks are those of the turns
 pub record Good (f : Shown → Verdict) (w0 : Config) (lists : CallerLists) (report : Report) : Type 0 where
   pub valid : IsValid w0
   pub first : report.journal.first ≡ w0

@@ -40,16 +40,19 @@ IsAlwaysSound = (g : Setup) → IsSetup g → (steps : List ℕ) → Sound g (af
 
 -- a report that some interleaving gives is a good one
 abbrev pub ReachedIsGood : Type 0
-ReachedIsGood = (g : Setup) → IsSetup g → (report : Report) → Reached g report → Good g.verdict g.world g.lists report
+ReachedIsGood = (g : Setup) → IsSetup g → (report : Report)
+    → Reached g report → Good g.verdict g.world g.lists report
 
--- a state has at most one report: two of them have one world, journals of one first world and the same entries, and the same marks. So
--- they are one, but for the room in their journals
+-- a state has at most one report: two of them have one world,
+-- journals of one first world and the same entries, and the same marks.
+-- So they are one, but for the room in their journals
 abbrev pub StateHasOneReport : Type 0
 StateHasOneReport =
     (g : Setup) (s : State) (one two : Report)
     → IsReportOf g s one
     → IsReportOf g s two
-    → (one.world ≡ two.world) × (one.journal.first ≡ two.journal.first) × (one.journal.entries ≡ two.journal.entries)
+    → (one.world ≡ two.world) × (one.journal.first ≡ two.journal.first)
+    × (one.journal.entries ≡ two.journal.entries)
     × (one.turns ≡ two.turns)
 
 -- each entry's change was decided on what the run shows its amoebot at its place
@@ -62,10 +65,12 @@ EntryIsDecided =
     → (world : Config) × IsWorldAt g.verdict g.world (after g steps).journal place world
     × (g.verdict (shown world e.bot) ≡ verdict.Change (change_of e))
 
--- what is kept beside the state as committed by a caller is the caller's entries of the journal, each with its place
+-- what is kept beside the state as committed by a caller is the caller's entries of the journal,
+-- each with its place
 abbrev pub CommittedIsJournal : Type 0
 CommittedIsJournal =
-    (g : Setup) (c : ℕ) (steps : List ℕ) → map placed (committed g c steps) ≡ entries_of c 0 (after g steps).journal
+    (g : Setup) (c : ℕ) (steps : List ℕ)
+    → map placed (committed g c steps) ≡ entries_of c 0 (after g steps).journal
 
 -- and with what the run shows the entry's amoebot there
 abbrev pub CommittedIsShown : Type 0
@@ -94,7 +99,8 @@ OneListIsSerial =
 
 -- a step of a caller that has ended changes nothing
 abbrev pub EndedStays : Type 0
-EndedStays = (g : Setup) (s : State) (c : ℕ) (k : Caller) → slice_get s.callers c ≡ Some k → k.phase ≡ Ended → next g c s ≡ s
+EndedStays = (g : Setup) (s : State) (c : ℕ) (k : Caller)
+    → slice_get s.callers c ≡ Some k → k.phase ≡ Ended → next g c s ≡ s
 
 -- no cell has a tag of a caller that holds nothing
 abbrev pub HoldsNothingHasNoTag : Type 0
@@ -124,9 +130,11 @@ HeldByOne =
 
 -- after any steps, so many rounds are enough for all callers to end
 abbrev pub RoundsEnd : Type 0
-RoundsEnd = (g : Setup) → IsSetup g → (steps : List ℕ) → HaveEnded (step_rounds g (most_step_rounds g.lists) (after g steps))
+RoundsEnd = (g : Setup) → IsSetup g → (steps : List ℕ)
+    → HaveEnded (step_rounds g (most_step_rounds g.lists) (after g steps))
 
--- after any steps, some number of rounds is the first with which all callers have ended, and then there is a report
+-- after any steps, some number of rounds is the first with which all callers have ended,
+-- and then there is a report
 pub record EndsInRounds (g : Setup) (steps : List ℕ) : Type 0 where
   pub count : ℕ
   pub ended : HaveEnded (step_rounds g count (after g steps))

@@ -36,7 +36,8 @@ pub record Setup : Type 0 where
 abbrev pub setup : (Shown → Verdict) → Config → CallerLists → Setup
 setup verdict world lists = record { verdict = verdict; world = world; lists = lists }
 
--- the tag and the value of each cell, by the cells' numbers; the journal, and the caller that holds it, if one does; the callers
+-- the tag and the value of each cell, by the cells' numbers; the journal,
+-- and the caller that holds it, if one does; the callers
 pub record State : Type 0 where
   pub tags : List ℕ
   pub values : List Cell
@@ -74,7 +75,8 @@ module _ (g : Setup) where
   abbrev pub own_tag : ℕ → ℕ → ℕ
   own_tag c t = tag c t (bot c t)
 
-  -- what an amoebot was shown, where the cells were read in the zone's order; the last one stands first
+  -- what an amoebot was shown, where the cells were read in the zone's order;
+  -- the last one stands first
   abbrev pub found : ℕ → Pairs → Shown
   found b held = shown_with g.world b (reverse held)
 
@@ -135,7 +137,8 @@ module _ (g : Setup) where
   -- a try to take the journal, which another may hold
   abbrev pub takes : ℕ → State → Caller → Change → Option ℕ → State
   takes c s k change (Some d) = s
-  takes c s k change None = record s { holder = Some c; callers = slice_set s.callers c (record k { phase = Committing change }) }
+  takes c s k change None =
+      record s { holder = Some c; callers = slice_set s.callers c (record k { phase = Committing change }) }
 
   -- the entry of a turn
   abbrev pub entry : ℕ → ℕ → Change → Entry
@@ -150,7 +153,8 @@ module _ (g : Setup) where
     holder = None;
     callers =
         slice_set s.callers c
-        (freeing_caller k.turn (map (patched_pair (plain_patch change.patch)) k.held) (k.marks ++ mark.Done (length s.journal) ∷ []));
+        (freeing_caller k.turn (map (patched_pair (plain_patch change.patch)) k.held)
+        (k.marks ++ mark.Done (length s.journal) ∷ []));
   }
 
   -- the release of the cell that was won last
@@ -203,14 +207,16 @@ module _ (g : Setup) where
   -- what the next step of a caller commits, with what was found for it
   abbrev pub commit_of : ℕ → State → Caller → Phase → List Committed
   commit_of c s k (Committing change) =
-      record { place = length s.journal; entry = entry c k.turn change; found = found (bot c k.turn) k.held } ∷ []
+      record { place = length s.journal; entry = entry c k.turn change; found = found (bot c k.turn) k.held }
+      ∷ []
   commit_of c s k phase = []
 
   abbrev pub commit_by : ℕ → State → Option Caller → List Committed
   commit_by c s None = []
   commit_by c s (Some k) = commit_of c s k k.phase
 
-  -- beside the state: the entries that a caller committed in these steps, each with its place and what was found for it
+  -- beside the state: the entries that a caller committed in these steps,
+  -- each with its place and what was found for it
   abbrev pub committed : ℕ → List ℕ → List Committed
   committed c [] = []
   committed c (d ∷ steps) =

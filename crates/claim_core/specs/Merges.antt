@@ -10,8 +10,8 @@ use Rattle.claim_core.specs.Reached.{entries_of}
 abbrev pub own_of : List (List (ℕ × Entry)) → ℕ → List (ℕ × Entry)
 own_of lists c = slice_index_or lists c []
 
--- these entries, of which the first one has this place, are left in the lists: each list has those of its caller, and each entry is of a
--- caller with a list
+-- these entries, of which the first one has this place, are left in the lists:
+-- each list has those of its caller, and each entry is of a caller with a list
 pub record AreLeft (lists : List (List (ℕ × Entry))) (place : ℕ) (es : List Entry) : Type 0 where
   pub own : (c : ℕ) → c < length lists → own_of lists c ≡ entries_of c place es
   pub listed : All (λ (e : Entry). e.caller < length lists) es
@@ -20,8 +20,10 @@ pub record AreLeft (lists : List (List (ℕ × Entry))) (place : ℕ) (es : List
 abbrev pub IsMerge : List (List (ℕ × Entry)) → List Entry → Type 0
 IsMerge lists journal = AreLeft lists 0 journal
 
--- the entry stands first in its caller's list, with this place, which stands first in no other list; and these are left behind it
-pub record IsNextEntry (lists : List (List (ℕ × Entry))) (place : ℕ) (e : Entry) (es : List Entry) : Type 0 where
+-- the entry stands first in its caller's list, with this place,
+-- which stands first in no other list; and these are left behind it
+pub record IsNextEntry (lists : List (List (ℕ × Entry)))
+    (place : ℕ) (e : Entry) (es : List Entry) : Type 0 where
   pub first : slice_get (own_of lists e.caller) 0 ≡ Some (place, e)
   pub only : (c : ℕ) (p : ℕ × Entry) → slice_get (own_of lists c) 0 ≡ Some p → p.0 ≡ place → c ≡ e.caller
   pub rest : AreLeft (slice_set lists e.caller (drop 1 (own_of lists e.caller))) (place + 1) es

@@ -18,7 +18,8 @@ use Rattle.claim_core.specs.Soundness.{marks_so_far}
 abbrev pub HaveEnded : State → Type 0
 HaveEnded s = All (λ (k : Caller). k.phase ≡ Ended) s.callers
 
--- the configuration has the area, the maxima and the ids of the first one, and its cells have these values
+-- the configuration has the area, the maxima and the ids of the first one,
+-- and its cells have these values
 pub record HasValues (g : Setup) (s : State) (world : Config) : Type 0 where
   pub same : HasSameIds g.world world
   pub values : values_of world ≡ s.values
@@ -35,8 +36,9 @@ pub record IsReachedState (g : Setup) (s : State) : Type 0 where
   pub steps : List ℕ
   pub led : s ≡ after g steps
 
--- a report that some interleaving gives: steps of the callers, the last one first, lead from the opening to a state in which every
--- caller has ended, and the report is that state's. A step of a number that is no caller's changes nothing
+-- a report that some interleaving gives: steps of the callers, the last one first,
+-- lead from the opening to a state in which every caller has ended, and the report is that state's.
+-- A step of a number that is no caller's changes nothing
 pub record Reached (g : Setup) (report : Report) : Type 0 where
   pub steps : List ℕ
   pub ended : HaveEnded (after g steps)
@@ -45,7 +47,8 @@ pub record Reached (g : Setup) (report : Report) : Type 0 where
 -- the entries of a caller, each with its place, where the first one stands at this place
 abbrev pub entries_of : ℕ → ℕ → List Entry → List (ℕ × Entry)
 entries_of c place [] = []
-entries_of c place (e ∷ es) = if nat_eq e.caller c then (place, e) ∷ entries_of c (place + 1) es else entries_of c (place + 1) es
+entries_of c place (e ∷ es) =
+    if nat_eq e.caller c then (place, e) ∷ entries_of c (place + 1) es else entries_of c (place + 1) es
 
 -- an entry with its place
 abbrev pub placed : Committed → ℕ × Entry
@@ -53,4 +56,5 @@ placed p = (p.place, p.entry)
 
 -- what was found for an entry is what the run shows its amoebot at its place
 abbrev pub IsShownAt : Setup → List Entry → Committed → Type 0
-IsShownAt g journal p = (world : Config) × IsWorldAt g.verdict g.world journal p.place world × (p.found ≡ shown world p.entry.bot)
+IsShownAt g journal p =
+    (world : Config) × IsWorldAt g.verdict g.world journal p.place world × (p.found ≡ shown world p.entry.bot)

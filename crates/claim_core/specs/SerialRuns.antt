@@ -1,4 +1,5 @@
--- The run of at most one list, whose turns are made one after another: what it leaves is determined.
+-- The run of at most one list, whose turns are made one after another:
+-- what it leaves is determined.
 use Rattle.std.specs.Prelude.{◌≡◌, ℕ, zero, suc, ◌*◌, ◌≤◌, List, [], ◌∷◌, ◌++◌, length}
 use Rattle.amoebot_state.specs.declared.verdict.Entry.{Entry}
 use Rattle.amoebot_state.specs.declared.verdict.Verdict.{Verdict}
@@ -31,7 +32,8 @@ entries_by (turned.Done e) = e ∷ []
 entries_by turned.Idle = []
 entries_by (turned.Failed why) = []
 
--- the only caller's turn: it is the verdict on the world reached, a step of the model or none, and its mark and entry stand last
+-- the only caller's turn: it is the verdict on the world reached, a step of the model or none,
+-- and its mark and entry stand last
 pub record MakesTurn (f : Shown → Verdict) (lists : CallerLists) (turn : ℕ) (old new : Left) : Type 0 where
   pub turned : Turned
   pub made : SerialTurn f 0 turn (bot_of_turn lists 0 turn) old.world turned new.world
@@ -41,7 +43,8 @@ pub record MakesTurn (f : Shown → Verdict) (lists : CallerLists) (turn : ℕ) 
 -- what so many turns of the only caller leave, one after another from the world w0
 abbrev pub SerialRun : (Shown → Verdict) → Config → CallerLists → ℕ → Left → Type 0
 SerialRun f w0 lists zero left = left ≡ record { marks = []; entries = []; world = w0 }
-SerialRun f w0 lists (suc turn) left = (before : Left) × SerialRun f w0 lists turn before × MakesTurn f lists turn before left
+SerialRun f w0 lists (suc turn) left =
+    (before : Left) × SerialRun f w0 lists turn before × MakesTurn f lists turn before left
 
 -- the turns of all callers together
 abbrev pub all_turns : CallerLists → ℕ
@@ -49,7 +52,8 @@ all_turns lists = length lists.ids * lists.turns
 
 -- what a report of at most one list says
 abbrev pub left_by : Report → Left
-left_by report = record { marks = marks_of report.turns 0; entries = report.journal.entries; world = report.world }
+left_by report =
+    record { marks = marks_of report.turns 0; entries = report.journal.entries; world = report.world }
 
 -- so many turns leave at most one thing
 abbrev pub SerialRunIsDetermined : Type 0
@@ -59,7 +63,8 @@ SerialRunIsDetermined =
     → SerialRun f w0 lists turns two
     → one ≡ two
 
--- so two good reports of one run of at most one list have one world, the same entries and the same marks
+-- so two good reports of one run of at most one list have one world,
+-- the same entries and the same marks
 abbrev pub SerialReportIsDetermined : Type 0
 SerialReportIsDetermined =
     (f : Shown → Verdict) (w0 : Config) (lists : CallerLists) (one two : Report)
@@ -68,4 +73,5 @@ SerialReportIsDetermined =
     → Good f w0 lists two
     → SerialRun f w0 lists (all_turns lists) (left_by one)
     → SerialRun f w0 lists (all_turns lists) (left_by two)
-    → (one.world ≡ two.world) × (one.journal.entries ≡ two.journal.entries) × (one.turns.marks ≡ two.turns.marks)
+    → (one.world ≡ two.world) × (one.journal.entries ≡ two.journal.entries)
+    × (one.turns.marks ≡ two.turns.marks)

@@ -1,5 +1,6 @@
--- What holds of each state that steps lead to. In Claim and Refusing a front of the zone is held, in Looking, Taking and Committing
--- the whole zone, in Releasing a front of the zone at the turn's mark.
+-- What holds of each state that steps lead to.
+-- In Claim and Refusing a front of the zone is held, in Looking,
+-- Taking and Committing the whole zone, in Releasing a front of the zone at the turn's mark.
 use Rattle.std.specs.Prelude.{◌≡◌, ◌≢◌, ◌⊎◌, ℕ, ◌+◌, ◌<◌, ◌≤◌, List, [], ◌∷◌, ◌++◌, map, length, reverse, slice_get, IsSome}
 use Rattle.std.specs.List.{All, AllPairs, Contains}
 use Rattle.std.specs.declared.option.Option.TheVariants.{Some}
@@ -69,7 +70,8 @@ IsTurn turns Ended t = t ≡ turns
 abbrev pub AreBefore : Config → ℕ → Pairs → CellName → Type 0
 AreBefore world b held n = (rest : List CellName) × (names held ++ n ∷ rest ≡ zone world b)
 
--- what a run may be about: a valid world of at most 4,096 amoebots, lists of ids of amoebots of it, and a decider that keeps its laws
+-- what a run may be about: a valid world of at most 4,096 amoebots, lists of ids of amoebots of it,
+-- and a decider that keeps its laws
 pub record IsSetup (g : Setup) : Type 0 where
   pub valid : IsValid g.world
   pub few : length g.world.bots ≤ most_bots
@@ -97,7 +99,8 @@ module _ (g : Setup) where
     pub marked : mark_of_turn (marks_so_far s) caller turn ≡ Some told
     pub in_zone : HasInZone g.verdict g.world s.journal (place_of told) bot cell
 
-  -- a turn of another caller, on its amoebot, that holds the cell; or that has its mark, at whose place the cell was in its zone
+  -- a turn of another caller, on its amoebot, that holds the cell; or that has its mark,
+  -- at whose place the cell was in its zone
   pub record IsHolder (s : State) (c : ℕ) (cell : CellName) (by_caller by_turn by_bot : ℕ) : Type 0 where
     pub listed : by_caller < length g.lists.ids
     pub other : by_caller ≢ c
@@ -107,9 +110,11 @@ module _ (g : Setup) where
 
   -- what a mark says is so, as far as the other turn has come
   abbrev pub TurnOkSoFar : State → ℕ → ℕ → Mark → Type 0
-  TurnOkSoFar s c t (mark.Done place) = (e : Entry) × (slice_get s.journal place ≡ Some e) × (e.caller ≡ c) × (e.turn ≡ t)
+  TurnOkSoFar s c t (mark.Done place) =
+      (e : Entry) × (slice_get s.journal place ≡ Some e) × (e.caller ≡ c) × (e.turn ≡ t)
   TurnOkSoFar s c t (mark.Idle place) = HasVerdict g.verdict g.world s.journal place (bot g c t) verdict.Idle
-  TurnOkSoFar s c t (mark.Failed why place) = HasVerdict g.verdict g.world s.journal place (bot g c t) (verdict.Failed why)
+  TurnOkSoFar s c t (mark.Failed why place) =
+      HasVerdict g.verdict g.world s.journal place (bot g c t) (verdict.Failed why)
   TurnOkSoFar s c t (mark.Busy n by_caller by_turn by_bot place) =
       HasInZone g.verdict g.world s.journal place (bot g c t) n × IsHolder s c n by_caller by_turn by_bot
 
@@ -128,7 +133,8 @@ module _ (g : Setup) where
     pub whole : names held ≡ zone world b
     pub verdict : g.verdict (shown world b) ≡ v
 
-  -- at least one cell is held, and those that are were a front of the zone at the place of the turn's mark
+  -- at least one cell is held, and those that are were a front of the zone
+  -- at the place of the turn's mark
   pub record IsReleasingCaller (s : State) (c t : ℕ) (held : Pairs) (marks : List Mark) : Type 0 where
     pub told : Mark
     pub marked : slice_get marks t ≡ Some told
@@ -148,7 +154,8 @@ module _ (g : Setup) where
   HasFront s last c k Releasing = IsReleasingCaller s c k.turn k.held k.marks
   HasFront s last c k Ended = k.held ≡ []
 
-  -- a held cell has the tag of its caller's turn, and its recorded value is what it holds in the last world
+  -- a held cell has the tag of its caller's turn, and its recorded value
+  -- is what it holds in the last world
   pub record IsHeld (s : State) (last : Config) (c t : ℕ) (p : CellName × Cell) : Type 0 where
     pub tag : at s.tags (number g.world.area (cell_of p)) ≡ Some (own_tag g c t)
     pub value : value last (cell_of p) ≡ Some (cell_value p)
@@ -165,8 +172,9 @@ module _ (g : Setup) where
     pub rising : AllPairs (λ one later. place_after one ≤ place_of later) k.marks
     pub within : All (λ m. place_after m ≤ length s.journal) k.marks
 
-  -- a sound state: the journal is a run of the model to a last world, the values are what the cells hold there, and each cell with a
-  -- tag is held by one caller. Along the marks of one caller places never fall, and after a Done they are above it
+  -- a sound state: the journal is a run of the model to a last world,
+  -- the values are what the cells hold there, and each cell with a tag is held by one caller.
+  -- Along the marks of one caller places never fall, and after a Done they are above it
   pub record Sound (s : State) : Type 0 where
     pub valid : IsValid g.world
     pub last : Config
@@ -183,4 +191,5 @@ module _ (g : Setup) where
         → at s.tags (number g.world.area n) ≡ Some t
         → t ≢ 0
         → (c : ℕ) × (k : Caller) × (slice_get s.callers c ≡ Some k) × Contains (names k.held) n
-    pub holder : (c : ℕ) → s.holder ≡ Some c → (k : Caller) × (slice_get s.callers c ≡ Some k) × IsCommitting k.phase
+    pub holder : (c : ℕ) → s.holder ≡ Some c
+        → (k : Caller) × (slice_get s.callers c ≡ Some k) × IsCommitting k.phase

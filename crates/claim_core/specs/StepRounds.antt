@@ -17,6 +17,7 @@ module _ (g : Setup) where
   step_rounds zero s = s
   step_rounds (suc n) s = step_round (step_rounds n s)
 
--- the greatest number of rounds that the turns of these lists take: 40 for each turn of all callers together
+-- the greatest number of rounds that the turns of these lists take:
+-- 40 for each turn of all callers together
 abbrev pub most_step_rounds : CallerLists → ℕ
 most_step_rounds lists = 40 * (length lists.ids * lists.turns)

@@ -26,15 +26,18 @@ pub record NobodyHolds (s : State) : Type 0 where
 abbrev pub TicketsHoldNoJournal : Type 0
 TicketsHoldNoJournal = (g : Setup) → IsSetup g → (steps : List ℕ) → NobodyHolds (ticket_after g steps)
 
--- what the step of a caller in a phase is: its commit, which is two steps of the claims' machine; else its one step there
+-- what the step of a caller in a phase is: its commit, which is two steps of the claims' machine;
+-- else its one step there
 abbrev pub IsTicketStep : Setup → ℕ → State → Caller → Phase → Type 0
-IsTicketStep g c s k (Taking change) = (ticket_next g c s ≡ commits g c s k change) × (ticket_next g c s ≡ next g c (next g c s))
+IsTicketStep g c s k (Taking change) =
+    (ticket_next g c s ≡ commits g c s k change) × (ticket_next g c s ≡ next g c (next g c s))
 IsTicketStep g c s k phase = ticket_next g c s ≡ next g c s
 
 -- while nobody holds the journal, each step is that
 abbrev pub TicketStepsAreEvents : Type 0
 TicketStepsAreEvents =
-    (g : Setup) (c : ℕ) (s : State) (k : Caller) → s.holder ≡ None → slice_get s.callers c ≡ Some k → IsTicketStep g c s k k.phase
+    (g : Setup) (c : ℕ) (s : State) (k : Caller) → s.holder ≡ None
+    → slice_get s.callers c ≡ Some k → IsTicketStep g c s k k.phase
 
 -- so each state is one to which steps of the claims' machine lead
 abbrev pub TicketsAreClaims : Type 0
@@ -45,9 +48,11 @@ abbrev pub TicketReachedIsReached : Type 0
 TicketReachedIsReached = (g : Setup) (report : Report) → TicketReached g report → Reached g report
 
 abbrev pub TicketReachedIsGood : Type 0
-TicketReachedIsGood = (g : Setup) → IsSetup g → (report : Report) → TicketReached g report → Good g.verdict g.world g.lists report
+TicketReachedIsGood = (g : Setup) → IsSetup g → (report : Report)
+    → TicketReached g report → Good g.verdict g.world g.lists report
 
--- nobody waits: with 40 steps of its own for each turn a caller has ended, whatever steps the others make between them
+-- nobody waits: with 40 steps of its own for each turn a caller has ended,
+-- whatever steps the others make between them
 abbrev pub TicketsWaitForNobody : Type 0
 TicketsWaitForNobody =
     (g : Setup)
@@ -63,11 +68,13 @@ TicketsLeaveAReport = (g : Setup) → IsSetup g → (report : Report) × TicketR
 
 -- after any steps the journal is the merge of the callers' own lists
 abbrev pub JournalIsMerge : Type 0
-JournalIsMerge = (g : Setup) → IsSetup g → (steps : List ℕ) → IsMerge (own_lists g steps) (ticket_after g steps).journal
+JournalIsMerge =
+    (g : Setup) → IsSetup g → (steps : List ℕ) → IsMerge (own_lists g steps) (ticket_after g steps).journal
 
 -- lists have at most one merge
 abbrev pub MergeIsOne : Type 0
-MergeIsOne = (lists : List (List (ℕ × Entry))) (place : ℕ) (es fs : List Entry) → AreLeft lists place es → AreLeft lists place fs → es ≡ fs
+MergeIsOne = (lists : List (List (ℕ × Entry))) (place : ℕ) (es fs : List Entry)
+    → AreLeft lists place es → AreLeft lists place fs → es ≡ fs
 
 -- it is made entry by entry: each one is found by its place,
 abbrev pub NextIsFirst : Type 0

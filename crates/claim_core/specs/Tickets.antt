@@ -1,5 +1,6 @@
--- Commits that wait for nobody: the machine of the claim protocol with one other row. A caller that has decided on a change draws its
--- place and commits there in one step, and nobody ever holds the journal: a caller in Taking commits next, and Committing never comes.
+-- Commits that wait for nobody: the machine of the claim protocol with one other row.
+-- A caller that has decided on a change draws its place and commits there in one step,
+-- and nobody ever holds the journal: a caller in Taking commits next, and Committing never comes.
 use Rattle.std.specs.Prelude.{ℕ, List, [], ◌∷◌, ◌++◌, map, length, nat_eq, if◌then◌else◌, slice_get}
 use Rattle.std.specs.List.{range_with_len}
 use Rattle.std.specs.declared.option.Option.{Option}
@@ -31,14 +32,16 @@ module _ (g : Setup) where
   ticket_after [] = opening g
   ticket_after (c ∷ steps) = ticket_next c (ticket_after steps)
 
-  -- a report that some interleaving gives: steps of the callers, the last one first, lead from the opening to a state in which every
-  -- caller has ended, and the report is that state's
+  -- a report that some interleaving gives: steps of the callers, the last one first,
+  -- lead from the opening to a state in which every caller has ended,
+  -- and the report is that state's
   pub record TicketReached (report : Report) : Type 0 where
     pub steps : List ℕ
     pub ended : HaveEnded (ticket_after steps)
     pub left : IsReportOf g (ticket_after steps) report
 
-  -- the entry that the next step of a caller commits, with the place that it draws: the journal's length
+  -- the entry that the next step of a caller commits, with the place that it draws:
+  -- the journal's length
   abbrev pub ticket_of : ℕ → State → Caller → Phase → List (ℕ × Entry)
   ticket_of c s k (Taking change) = (length s.journal, entry g c k.turn change) ∷ []
   ticket_of c s k phase = []
@@ -47,7 +50,8 @@ module _ (g : Setup) where
   ticket_by c s None = []
   ticket_by c s (Some k) = ticket_of c s k k.phase
 
-  -- beside the state: the caller's own list, with the entries that it committed in these steps, each with the place that it drew
+  -- beside the state: the caller's own list, with the entries that it committed in these steps,
+  -- each with the place that it drew
   abbrev pub own_list : ℕ → List ℕ → List (ℕ × Entry)
   own_list c [] = []
   own_list c (d ∷ steps) =

@@ -4,7 +4,8 @@ ghost use Rattle.claim_core.specs.Cells.{number, cells, cell_bound};
 use amoebot_state::{CellName, World};
 use tri_lattice::Area;
 
-/// The number of a cell: the nodes of the area by their numbers, then the bodies by their ids; None for a node outside.
+/// The number of a cell: the nodes of the area by their numbers, then the bodies by their ids;
+/// None for a node outside.
 pub fn cell_number(area: &Area, name: CellName) -> Option<usize>
     ensures { result ≡ number area.now name }
 {

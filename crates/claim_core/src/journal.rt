@@ -5,7 +5,8 @@ use amoebot_state::{Entry, NoMemory, World};
 use std::alloc::Global;
 use std::marker::Model;
 
-/// A first world and the entries of the activations that were committed from there on, with room that is reserved for more.
+/// A first world and the entries of the activations that were committed from there on,
+/// with room that is reserved for more.
 #[derive(Drop)]
 pub struct Journal {
     first: World,
@@ -18,7 +19,11 @@ impl Model for Journal {
 
     ghost Value = { Kept };
 
-    ghost view = { λ j. record { first = j.first; entries = j.entries.items; spare = vec_capacity j.entries - vec_len j.entries } };
+    ghost view = { λ j. record {
+      first = j.first;
+      entries = j.entries.items;
+      spare = vec_capacity j.entries - vec_len j.entries;
+    } };
 }
 
 impl Journal {

@@ -8,8 +8,9 @@ ghost use Rattle.claim_core.specs.SerialRuns.{SerialRunIsDetermined, SerialRepor
 
 use amoebot_state::step_has_one_result;
 
-/// What the turns of the only caller leave is determined: by the decider, the first world, the list and the number of turns. So
-/// two reports of such a run have one last world, one journal and the same marks.
+/// What the turns of the only caller leave is determined: by the decider, the first world,
+/// the list and the number of turns.
+/// So two reports of such a run have one last world, one journal and the same marks.
 pub fn serial_run_is_determined()
     ensures left { SerialRunIsDetermined }
     ensures report { SerialReportIsDetermined }
@@ -77,12 +78,14 @@ pub fn held_by_one()
     ensures { HeldByOne }
 {}
 
-/// After any steps, 40 rounds for each turn of all callers together are enough for all callers to end.
+/// After any steps, 40 rounds for each turn of all callers together
+/// are enough for all callers to end.
 pub fn rounds_are_enough()
     ensures { RoundsEnd }
 {}
 
-/// After any steps, some number of rounds is the first with which all callers have ended, and then there is a report.
+/// After any steps, some number of rounds is the first with which all callers have ended,
+/// and then there is a report.
 pub fn rounds_leave_a_report()
     ensures { RoundsLeaveAReport }
 {}
@@ -97,7 +100,8 @@ pub fn tickets_hold_no_journal()
     ensures { TicketsHoldNoJournal }
 {}
 
-/// Each step is its event: a commit is the journal taken and the commit behind it, and each other step is that of the claims' machine.
+/// Each step is its event: a commit is the journal taken and the commit behind it,
+/// and each other step is that of the claims' machine.
 pub fn ticket_steps_are_events()
     ensures { TicketStepsAreEvents }
 {}
@@ -107,7 +111,8 @@ pub fn tickets_are_claims()
     ensures { TicketsAreClaims }
 {}
 
-/// So a report that commits with tickets give is one that some interleaving of the claims' machine gives.
+/// So a report that commits with tickets give is one that some
+/// interleaving of the claims' machine gives.
 pub fn ticket_reached_is_reached()
     ensures { TicketReachedIsReached }
 {}
@@ -117,7 +122,8 @@ pub fn ticket_reached_is_good()
     ensures { TicketReachedIsGood }
 {}
 
-/// A caller has ended after 40 steps of its own for each turn, whatever the others do: it waits for nobody.
+/// A caller has ended after 40 steps of its own for each turn, whatever the others do:
+/// it waits for nobody.
 pub fn tickets_wait_for_nobody()
     ensures { TicketsWaitForNobody }
 {}
@@ -138,7 +144,8 @@ pub fn merge_is_one()
     ensures example { SmallMerge }
 {}
 
-/// A merge is made entry by entry: the next one stands first in one list, found by its place, and without it the rest is left.
+/// A merge is made entry by entry: the next one stands first in one list, found by its place,
+/// and without it the rest is left.
 /// Where no list begins with the place, none is left.
 pub fn next_is_first()
     ensures first { NextIsFirst }

@@ -1,4 +1,5 @@
-//! The callers' lists, the journal, the marks and the report of a concurrent run, and what makes a report a good one.
+//! The callers' lists, the journal, the marks and the report of a concurrent run,
+//! and what makes a report a good one.
 //! And the machine that the callers' claims, decisions, commits and releases step.
 #![tactic(auto)]
 

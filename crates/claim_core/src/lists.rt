@@ -6,8 +6,8 @@ use amoebot_state::NoMemory;
 use std::alloc::Global;
 use std::marker::Model;
 
-/// The lists of the callers, at most 16 of 1 to 4,096 ids each, and the number of turns that each of them has: at most 65,536
-/// for all together.
+/// The lists of the callers, at most 16 of 1 to 4,096 ids each,
+/// and the number of turns that each of them has: at most 65,536 for all together.
 #[derive(Drop)]
 pub struct Lists {
     turns: u32,
@@ -40,7 +40,8 @@ impl Lists {
     pub fn add(&mut self, alloc: Global, ids: &[u16]) -> Result<(), NoMemory>
         requires list { IsList ids.now }
         requires few { AreFew (length self.old.ids + 1) self.old.turns }
-        ensures ok { OnOk result (self.new ≡ record { turns = self.old.turns; ids = self.old.ids ++ ids.now ∷ [] }) }
+        ensures ok { OnOk result (
+            self.new ≡ record { turns = self.old.turns; ids = self.old.ids ++ ids.now ∷ [] }) }
         ensures err { OnErr result (self.new ≡ self.old) }
     {
         let ids = Vec::from_slice(alloc, ids)?;

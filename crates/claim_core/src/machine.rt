@@ -33,8 +33,9 @@ use std::alloc::Global;
 use std::marker::Model;
 use std::mem::replace;
 
-/// A caller: its turn, what it does next, what is known of its amoebot's zone while it claims, and the cells that it holds, in the
-/// order in which they were won, each with its value as it was recorded.
+/// A caller: its turn, what it does next, what is known of its amoebot's zone while it claims,
+/// and the cells that it holds, in the order in which they were won,
+/// each with its value as it was recorded.
 #[derive(Drop)]
 struct CoreCaller {
     turn: u32,
@@ -72,7 +73,8 @@ impl CoreCaller {
         }
     }
 
-    /// Goes on after a cell was won, of which all that is held is known: with the last one of the zone comes the decision.
+    /// Goes on after a cell was won, of which all that is held is known:
+    /// with the last one of the zone comes the decision.
     fn go_on<D: Decider>(&mut self, decider: &D, found: &mut Option<Found>, world: &World, bot: u16)
         requires claims { self.old.phase ≡ phase.Claim }
         requires knows { self.old.zone ≡ reading world.now.area bot self.old.held.items }
@@ -130,11 +132,13 @@ impl<'d, D: Decider> Model for Core<'d, D> {
       state = state_of c.tags.items c.world c.journal c.holder c.seats.items c.marks;
     } };
 
-    ghost invariant = { λ c. IsCore (D.verdict c.decider.now) c.lists c.tags.items c.world c.journal c.holder c.seats.items c.marks };
+    ghost invariant = { λ c. IsCore
+        (D.verdict c.decider.now) c.lists c.tags.items c.world c.journal c.holder c.seats.items c.marks };
 }
 
 impl<'d, D: Decider> Core<'d, D> {
-    /// The core before the first step, over lists of ids of amoebots of the world. It takes all memory.
+    /// The core before the first step, over lists of ids of amoebots of the world.
+    /// It takes all memory.
     pub fn make(
         alloc: Global,
         decider: &'d D,
@@ -178,8 +182,8 @@ impl<'d, D: Decider> Core<'d, D> {
         })
     }
 
-    /// What a core keeps: what it is about may be run; some steps led from the opening to its state, so that it is sound; and each
-    /// list has its caller.
+    /// What a core keeps: what it is about may be run; some steps led from the opening
+    /// to its state, so that it is sound; and each list has its caller.
     pub fn keeps(&self)
         ensures setup { IsSetup (setup_of D.verdict self.now) }
         ensures reached { IsReachedState (setup_of D.verdict self.now) self.now.state }
@@ -207,7 +211,8 @@ impl<'d, D: Decider> Core<'d, D> {
         &seat.phase
     }
 
-    /// The cells that a caller holds, in the order in which they were won, each with its value as it was recorded.
+    /// The cells that a caller holds, in the order in which they were won,
+    /// each with its value as it was recorded.
     pub fn held(&self, caller: u8) -> &[(CellName, Cell)]
         requires { caller < length self.now.state.callers }
         ensures { HoldsCells self.now.state.callers caller result.now }
@@ -223,7 +228,8 @@ impl<'d, D: Decider> Core<'d, D> {
         self.holder
     }
 
-    /// The tags of all cells, by the cells' numbers: the nodes of the area by theirs, then the bodies by their ids.
+    /// The tags of all cells, by the cells' numbers: the nodes of the area by theirs,
+    /// then the bodies by their ids.
     pub fn tags(&self) -> &[u64]
         ensures { result.now ≡ self.now.state.tags }
     {
@@ -303,7 +309,8 @@ impl<'d, D: Decider> Core<'d, D> {
     fn settle(&mut self, caller: u8, mark: Mark)
         requires unmarked { IsUnmarked self.old.lists.turns self.old.state.callers caller }
         requires next { next (setup_of D.verdict self.old) caller self.old.state
-            ≡ looks_at (setup_of D.verdict self.old) caller self.old.state (slice_get self.old.state.callers caller) mark }
+            ≡ looks_at (setup_of D.verdict self.old) caller self.old.state
+            (slice_get self.old.state.callers caller) mark }
         ensures { self.new ≡ stepped D.verdict caller self.old }
     {
         let turns = self.lists.turns();
@@ -382,7 +389,8 @@ impl<'d, D: Decider> Core<'d, D> {
         have_ended(self.seats.as_slice())
     }
 
-    /// Rounds of one step for each caller, in rising number, until all have ended: at most 40 for each turn of all callers together.
+    /// Rounds of one step for each caller, in rising number, until all have ended:
+    /// at most 40 for each turn of all callers together.
     pub fn finish(&mut self)
         ensures finished { IsFinished D.verdict self.old self.new }
         ensures callers { length self.new.state.callers ≡ length self.old.state.callers }
@@ -395,7 +403,8 @@ impl<'d, D: Decider> Core<'d, D> {
 
     /// One step of each caller, in rising number.
     fn round(&mut self)
-        ensures { self.new ≡ record self.old { state = step_round (setup_of D.verdict self.old) self.old.state } }
+        ensures { self.new
+            ≡ record self.old { state = step_round (setup_of D.verdict self.old) self.old.state } }
     {
         let callers = self.lists.callers();
         for caller in 0..callers {
@@ -483,7 +492,8 @@ fn mark_of(look: Look, place: u32) -> Mark
     }
 }
 
-/// The next cell of an amoebot's zone, of which a caller holds these cells. What is known of the zone begins anew with its first cell.
+/// The next cell of an amoebot's zone, of which a caller holds these cells.
+/// What is known of the zone begins anew with its first cell.
 fn next_known(zone: &mut KnownZone, bot: u16, held: &[(CellName, Cell)]) -> Option<CellName>
     ensures { (a : Extent) → (0 < length held.now → zone.old ≡ reading a bot held.now)
         → (zone.new ≡ reading a bot held.now) × (result ≡ next_cell a bot held.now) }

@@ -5,7 +5,8 @@ use amoebot_state::{CellName, Failure, NoMemory};
 use std::alloc::Global;
 use std::marker::Model;
 
-/// What became of a turn. The place is the number of entries of the journal at the moment that the mark speaks of.
+/// What became of a turn.
+/// The place is the number of entries of the journal at the moment that the mark speaks of.
 #[derive(Clone, Copy, Debug, PartialEq, Eq)]
 pub enum Mark {
     /// The turn committed the entry with this number.

@@ -28,8 +28,8 @@ pub enum Phase {
     Ended,
 }
 
-/// A caller: its turn, its phase, the cells that it holds, the one won last at the front, each with its value as it was recorded,
-/// and the marks of its turns so far.
+/// A caller: its turn, its phase, the cells that it holds, the one won last at the front,
+/// each with its value as it was recorded, and the marks of its turns so far.
 pub struct Caller {
     pub turn: u32,
     pub phase: Phase,

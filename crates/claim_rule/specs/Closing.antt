@@ -18,13 +18,15 @@ use Rattle.claim_rule.specs.Manners.{CommitWay, after_by}
 use Rattle.claim_rule.specs.Stands.{IsRecord}
 use Rattle.claim_rule.specs.Tokens.{Token, record_in, number_in, doing}
 
--- steps of the callers, the last one first, lead from the opening to a state in which what each seat knows is so, of its caller and of
--- the entries that the caller committed, with this journal and, in its cells, the values of this world
+-- steps of the callers, the last one first, lead from the opening to a state in which what each
+-- seat knows is so, of its caller and of the entries that the caller committed,
+-- with this journal and, in its cells, the values of this world
 pub record ClosesAs {D : Type 0} (way : CommitWay) (verdict : D → Shown → Verdict) (z : Terms D)
     (seats : List (Option (Token D))) (world : Config) (journal : Kept) : Type 0 where
   pub steps : List ℕ
   pub callers : (c : ℕ) (t : Token D) → slice_get seats c ≡ Some (Some t)
-      → (number_in t ≡ c) × IsRecord (setup_of_terms verdict z) (after_by way (setup_of_terms verdict z) steps) (record_in t)
+      → (number_in t ≡ c)
+      × IsRecord (setup_of_terms verdict z) (after_by way (setup_of_terms verdict z) steps) (record_in t)
   pub first : journal.first ≡ z.world
   pub entries : journal.entries ≡ (after_by way (setup_of_terms verdict z) steps).journal
   pub values : HasValues (setup_of_terms verdict z) (after_by way (setup_of_terms verdict z) steps) world
@@ -34,7 +36,8 @@ pub record LeavesAs {D : Type 0} (way : CommitWay) (verdict : D → Shown → Ve
     (seats : List (Option (Token D))) : Type 0 where
   pub steps : List ℕ
   pub callers : (c : ℕ) (t : Token D) → slice_get seats c ≡ Some (Some t)
-      → (number_in t ≡ c) × IsRecord (setup_of_terms verdict z) (after_by way (setup_of_terms verdict z) steps) (record_in t)
+      → (number_in t ≡ c)
+      × IsRecord (setup_of_terms verdict z) (after_by way (setup_of_terms verdict z) steps) (record_in t)
 
 -- the seats that are there hold nothing
 abbrev pub HoldNothing : {D : Type 0} → List (Option (Token D)) → Type 0
@@ -54,9 +57,11 @@ report_of z seats world journal = record {
 }
 
 -- What a field leaves is right: it is a run of the model from the first world to the last.
--- Its entries are turns of the lists in their order. Of the turns that were made each mark is right, Busy included.
+-- Its entries are turns of the lists in their order.
+-- Of the turns that were made each mark is right, Busy included.
 pub record EndsRight {D : Type 0} (verdict : D → Shown → Verdict) (z : Terms D)
     (seats : List (Option (Token D))) (world : Config) (journal : Kept) : Type 0 where
   pub run : Run (verdict z.decider) z.world journal.entries world
   pub order : Order z.lists journal.entries
-  pub marks : AreMarks SoFar (verdict z.decider) z.world z.lists journal.entries (report_of z seats world journal).turns
+  pub marks : AreMarks SoFar (verdict z.decider) z.world z.lists journal.entries
+      (report_of z seats world journal).turns

@@ -1,4 +1,5 @@
--- What a try to take the journal and a commit tell the seat that makes them: how its record changes, and nothing else.
+-- What a try to take the journal and a commit tell the seat that makes them:
+-- how its record changes, and nothing else.
 use Rattle.std.specs.Prelude.{◌≡◌, ◌≢◌, ℕ, ◌+◌, ◌*◌, ◌%◌, ◌<◌, List, [], ◌∷◌, ◌++◌, map, length, slice_get}
 use Rattle.std.specs.declared.option.Option.TheVariants.{Some, None}
 use Rattle.atomic_table.specs.Table.{Step, rest}
@@ -39,15 +40,16 @@ commit_at g r change place = record {
 abbrev pub with_journal : Record → Change → Kept → Record
 with_journal r change j = record r { caller = record r.caller { phase = Committing change }; taken = Some j }
 
--- the record of a caller that has committed this change at a place: the entry joins its own, its cells have the new values of the patch,
--- the turn has its mark, and the journal is gone
+-- the record of a caller that has committed this change at a place: the entry joins its own,
+-- its cells have the new values of the patch, the turn has its mark, and the journal is gone
 abbrev pub with_commit : Setup → Record → Change → ℕ → Record
 with_commit g r change place = record {
   number = r.number;
   won = r.won;
   note = r.note;
   caller =
-      freeing_caller g r.caller.turn (map (patched_pair (plain_patch change.patch)) r.caller.held) (r.caller.marks ++ mark.Done place ∷ []);
+      freeing_caller g r.caller.turn (map (patched_pair (plain_patch change.patch)) r.caller.held)
+      (r.caller.marks ++ mark.Done place ∷ []);
   committed = r.committed ++ commit_at g r change place ∷ [];
   taken = None;
 }
@@ -74,7 +76,8 @@ module _ {D : Type 0} where
     pub out : m'.1 ≡ (i, slot.Journal journal) ∷ m.1
 
 module _ {D : Type 0} (verdict : D → Shown → Verdict) where
-  -- another caller has the journal, in a sound state of the machine in which this caller is as its record says
+  -- another caller has the journal, in a sound state of the machine
+  -- in which this caller is as its record says
   pub record IsTakenElsewhere (v : View D) : Type 0 where
     pub core : State
     pub sound : Sound (about verdict v) core
@@ -83,19 +86,22 @@ module _ {D : Type 0} (verdict : D → Shown → Verdict) where
     pub has : core.holder ≡ Some holder
     pub other : holder ≢ (own v).number
 
-  -- an even word was found, and the seat has the journal; or an odd one, and nothing changed, since another caller has it
+  -- an even word was found, and the seat has the journal; or an odd one, and nothing changed,
+  -- since another caller has it
   abbrev pub took : Step Slot → Seated D → ℕ → Seated D → Type 0
-  took st m t m' = (t % 2 ≡ 0 → GotJournal (journal_slot (about verdict m.0).world) m m') × (t % 2 ≢ 0 → (m' ≡ m) × IsTakenElsewhere m.0)
+  took st m t m' = (t % 2 ≡ 0 → GotJournal (journal_slot (about verdict m.0).world) m m')
+      × (t % 2 ≢ 0 → (m' ≡ m) × IsTakenElsewhere m.0)
 
-  -- the caller's change is to be committed: the seat has the journal to put home with the slot of this number, with the change's
-  -- entry in it, and the word to store is twice its length
+  -- the caller's change is to be committed: the seat has the journal to put home with the slot
+  -- of this number, with the change's entry in it, and the word to store is twice its length
   pub record IsToCommit (i x : ℕ) (m : Seated D) : Type 0 where
     pub change : Change
     pub phase : (own m.0).caller.phase ≡ Committing change
     pub journal : Kept
     pub taken : (own m.0).taken ≡ Some journal
     pub next : Kept
-    pub pushed : IsPushed journal (entry (about verdict m.0) (own m.0).number (own m.0).caller.turn change) next
+    pub pushed : IsPushed journal
+        (entry (about verdict m.0) (own m.0).number (own m.0).caller.turn change) next
     pub more : List (ℕ × Slot)
     pub out : m.1 ≡ (i, slot.Journal next) ∷ more
     pub word : x ≡ 2 * length next.entries

@@ -38,8 +38,10 @@ module _ {D : Type 0} where
   abbrev pub joined_view : View D → View D → View D
   joined_view v w = like w (v.records ++ w.records)
 
-  -- the records of all seats that are there are among these, and none of them has the journal taken or holds a cell
+  -- the records of all seats that are there are among these,
+  -- and none of them has the journal taken or holds a cell
   abbrev pub HaveAll : List (Option (Token D)) → List Record → Type 0
   HaveAll seats rs =
       (c : ℕ) (t : Token D) → slice_get seats c ≡ Some (Some t)
-      → (place : ℕ) × (slice_get rs place ≡ Some (record_in t)) × ((record_in t).taken ≡ None) × ((doing t).held ≡ [])
+      → (place : ℕ) × (slice_get rs place ≡ Some (record_in t))
+      × ((record_in t).taken ≡ None) × ((doing t).held ≡ [])

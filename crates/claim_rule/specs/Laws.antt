@@ -29,8 +29,8 @@ use Rattle.claim_rule.specs.Opened.{AreSlotsAtFirst, first_words}
 use Rattle.claim_rule.specs.Seating.{spent}
 use Rattle.claim_rule.specs.Closing.{ClosesAs, HoldNothing, EndsRight, report_of}
 
--- a table whose words and slots hold what a field begins with, and whose one seat knows all callers before their first turn
--- stands for the opening
+-- a table whose words and slots hold what a field begins with,
+-- and whose one seat knows all callers before their first turn stands for the opening
 abbrev pub OpeningStands : {D : Type 0} → CommitWay → (D → Shown → Verdict) → Type 0
 OpeningStands {D} way verdict =
     (z : Terms D) (slots : List Slot)
@@ -44,7 +44,8 @@ OpeningStands {D} way verdict =
 abbrev pub SplitChangesNothing : {D : Type 0} → CommitWay → (D → Shown → Verdict) → Type 0
 SplitChangesNothing {D} way verdict =
     (z : Terms D) (core : State) (seat : ℕ) (r : Record) (rs : List Record)
-    → Splits (λ (s : Content D). Stands verdict z way s core) seat (view_of z (r ∷ rs)) (view_of z rs) (view_of z (r ∷ []))
+    → Splits (λ (s : Content D). Stands verdict z way s core) seat
+    (view_of z (r ∷ rs)) (view_of z rs) (view_of z (r ∷ []))
 
 -- and where a seat takes in the records of another
 abbrev pub JoinChangesNothing : {D : Type 0} → CommitWay → (D → Shown → Verdict) → Type 0
@@ -53,8 +54,9 @@ JoinChangesNothing {D} way verdict =
     → Joins (λ (s : Content D). Stands verdict z way s core)
     seat (view_of z rs) other (view_of z qs) (view_of z (rs ++ qs)) spent
 
--- where the table stands for the state after some steps, the journal leads to one last world, and what a caller has found that holds
--- its whole zone is what this world shows its amoebot. It is so after any steps, and hence until the turn has its mark
+-- where the table stands for the state after some steps, the journal leads to one last world,
+-- and what a caller has found that holds its whole zone is what this world shows its amoebot.
+-- It is so after any steps, and hence until the turn has its mark
 abbrev pub FoundIsShown : {D : Type 0} → CommitWay → (D → Shown → Verdict) → Type 0
 FoundIsShown {D} way verdict =
     (z : Terms D) (s : Content D) (steps : List ℕ) (seat place : ℕ) (r : Record)
@@ -87,8 +89,9 @@ FieldEndsOneWay {D} way verdict =
     → ClosesAs way verdict z seats other second
     → (world ≡ other) × (journal.first ≡ second.first) × (journal.entries ≡ second.entries)
 
--- what each mark of a seat says is so of the turn of its caller, as far as the callers have come; and what is left is a run of the
--- model from the first world to the last, whose entries are turns of the lists in their order
+-- what each mark of a seat says is so of the turn of its caller, as far as the callers have come;
+-- and what is left is a run of the model from the first world to the last,
+-- whose entries are turns of the lists in their order
 abbrev pub FieldEndsSound : {D : Type 0} → CommitWay → (D → Shown → Verdict) → Type 0
 FieldEndsSound {D} way verdict =
     (z : Terms D) (seats : List (Option (Token D))) (world : Config) (journal : Kept)
@@ -101,7 +104,8 @@ FieldEndsSound {D} way verdict =
     → slice_get (doing token).marks t ≡ Some m
     → TurnOkSoFar (setup_of_terms verdict z) (after_by way (setup_of_terms verdict z) ends.steps) c t m)
 
--- and where each caller's seat is there and holds nothing, all that is left is right, whether or not the callers have ended
+-- and where each caller's seat is there and holds nothing, all that is left is right,
+-- whether or not the callers have ended
 abbrev pub FieldEndsRight : {D : Type 0} → CommitWay → (D → Shown → Verdict) → Type 0
 FieldEndsRight {D} way verdict =
     (z : Terms D) (seats : List (Option (Token D))) (world : Config) (journal : Kept)
@@ -112,7 +116,8 @@ FieldEndsRight {D} way verdict =
     → ClosesAs way verdict z seats world journal
     → EndsRight verdict z seats world journal
 
--- once each caller has ended and its seat is there, that is a report which some interleaving gives, and so a good one
+-- once each caller has ended and its seat is there, that is a report which some interleaving gives,
+-- and so a good one
 abbrev pub EndedFieldIsReached : {D : Type 0} → (D → Shown → Verdict) → Type 0
 EndedFieldIsReached {D} verdict =
     (z : Terms D) (seats : List (Option (Token D))) (world : Config) (journal : Kept)

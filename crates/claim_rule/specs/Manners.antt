@@ -1,5 +1,6 @@
--- The two ways in which a change is committed: the caller takes the journal before, and frees it with the commit; or the commit draws its
--- place, in one step. Here stands all that depends on the way.
+-- The two ways in which a change is committed: the caller takes the journal before,
+-- and frees it with the commit; or the commit draws its place, in one step.
+-- Here stands all that depends on the way.
 use Rattle.std.specs.Prelude.{ℕ, ◌+◌, ◌*◌, ◌/◌, List, [], length, unwrap_or, Bool, true, false}
 use Rattle.std.specs.declared.option.Option.{Option}
 use Rattle.std.specs.Option.{option_len}
@@ -26,7 +27,8 @@ abbrev pub after_by : CommitWay → Setup → List ℕ → State
 after_by by_journal g = after g
 after_by by_ticket g = ticket_after g
 
--- the word behind those of the cells: twice the journal's length, plus one exactly where it has a holder; or the length
+-- the word behind those of the cells: twice the journal's length,
+-- plus one exactly where it has a holder; or the length
 abbrev pub length_word : CommitWay → ℕ → Option ℕ → ℕ
 length_word by_journal n holder = 2 * n + option_len holder
 length_word by_ticket n holder = n
@@ -39,8 +41,8 @@ abbrev pub length_in : CommitWay → ℕ → ℕ
 length_in by_journal t = t / 2
 length_in by_ticket t = t
 
--- the number of the first plain cell, whose word is its tag and whose value has a slot: the cells from it on are plain, and those before
--- it are nodes
+-- the number of the first plain cell, whose word is its tag and whose value has a slot:
+-- the cells from it on are plain, and those before it are nodes
 abbrev pub first_plain : CommitWay → Config → ℕ
 first_plain by_journal c = c.area.w * c.area.h
 first_plain by_ticket c = 0

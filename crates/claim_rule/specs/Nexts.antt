@@ -1,4 +1,5 @@
--- That each step of a seat is its caller's next step of the machine, or leaves the machine as it is.
+-- That each step of a seat is its caller's next step of the machine,
+-- or leaves the machine as it is.
 use Rattle.std.specs.Prelude.{◌≡◌, ◌≢◌, ℕ, ◌+◌, ◌%◌, ◌^◌, ◌==◌, List, [], ◌∷◌, slice_index, bit_or}
 use mathlib.Core.Option.{none, some}
 use lib.ListN.{get_elem?}
@@ -23,15 +24,16 @@ use Rattle.claim_rule.specs.Commits.{Takes, IsToCommit, took, stored, drew}
 
 module _ {D : Type 0} (verdict : D → Shown → Verdict) (z : Terms D) (way : CommitWay) where
   -- Once x is put in the word i, the table stands for this state.
-  -- It does so with some view of the seat and some act on slots, and the seat knows what the step tells.
+  -- It does so with some view of the seat and some act on slots,
+  -- and the seat knows what the step tells.
   abbrev pub GoesTo : Content D → State → ℕ → ℕ → Seated D → (ℕ → Seated D → Type 0) → ℕ → Type 0
   GoesTo s later i seat me then x =
       (w : View D) × (a : Act Slot) × Valid s.homes me.1 a
       × Stands verdict z way (stepped s i x seat me.1 w a) later
       × then (slice_index s.words i) (w, carried_after me.1 a)
 
-  -- Whatever view and act the seat has taken: if the rule is kept, and the seat knows what the step tells,
-  -- then the table stands for that state.
+  -- Whatever view and act the seat has taken: if the rule is kept,
+  -- and the seat knows what the step tells, then the table stands for that state.
   abbrev pub IsEachStep : Content D → State → ℕ → ℕ → Seated D → (ℕ → Seated D → Type 0) → ℕ → Type 0
   IsEachStep s later i seat me then x =
       (w : View D) (a : Act Slot)
@@ -40,7 +42,8 @@ module _ {D : Type 0} (verdict : D → Shown → Verdict) (z : Terms D) (way : C
       → Stands verdict z way (stepped s i x seat me.1 w a) later
 
   -- so the step that is made leads to this state
-  pub record LeadsTo (s : Content D) (later : State) (i seat : ℕ) (me : Seated D) (then : ℕ → Seated D → Type 0) (x : ℕ) : Type 0 where
+  pub record LeadsTo (s : Content D) (later : State) (i seat : ℕ)
+      (me : Seated D) (then : ℕ → Seated D → Type 0) (x : ℕ) : Type 0 where
     pub some : GoesTo s later i seat me then x
     pub each : IsEachStep s later i seat me then x
 
@@ -86,8 +89,8 @@ module _ {D : Type 0} (verdict : D → Shown → Verdict) (z : Terms D) (way : C
 
 -- the steps on the words of nodes and on the journal, which a caller takes before it commits
 module _ {D : Type 0} (verdict : D → Shown → Verdict) (z : Terms D) where
-  -- a look at the word of the node that is tried next: another's tag is the refusal of a claim, and a free word is noted, which is no
-  -- step of the machine
+  -- a look at the word of the node that is tried next: another's tag is the refusal of a claim,
+  -- and a free word is noted, which is no step of the machine
   abbrev pub NodeLookIsNext : Type 0
   NodeLookIsNext =
       (s : Content D) (core : State) (seat i slots : ℕ) (r : Record) (out : List (ℕ × Slot))
@@ -95,21 +98,27 @@ module _ {D : Type 0} (verdict : D → Shown → Verdict) (z : Terms D) where
       → IsToTryNode verdict i (view_of z (r ∷ []))
       → (let w : ℕ = slice_index s.words i in
       let tells : ℕ → Seated D → Type 0 = LooksAt verdict (step slots i 0 0 none) (view_of z (r ∷ []), out) in
-      (word_tag w ≢ 0 → LeadsTo verdict z by_journal s (stepped_on verdict z by_journal core r) i seat (view_of z (r ∷ []), out) tells w)
+      (word_tag w ≢ 0 → LeadsTo verdict z by_journal s
+      (stepped_on verdict z by_journal core r) i seat (view_of z (r ∷ []), out) tells w)
       × (word_tag w ≡ 0 → LeadsTo verdict z by_journal s core i seat (view_of z (r ∷ []), out) tells w))
 
-  -- a try to put the tag into the noted word of a node: where that is found, the node is won; another's tag is the refusal of a claim;
-  -- and another free word is noted, which is no step of the machine
+  -- a try to put the tag into the noted word of a node: where that is found, the node is won;
+  -- another's tag is the refusal of a claim; and another free word is noted,
+  -- which is no step of the machine
   abbrev pub NodeClaimIsNext : Type 0
   NodeClaimIsNext =
       (s : Content D) (core : State) (seat i old new slots : ℕ) (r : Record) (out : List (ℕ × Slot))
       → IsAt verdict z by_journal s core seat r
       → IsToWin verdict i old new (view_of z (r ∷ []))
       → (let w : ℕ = slice_index s.words i in
-      let tells : ℕ → Seated D → Type 0 = TriesNode verdict (step slots i old new none) (view_of z (r ∷ []), out) in
-      (w ≡ old → LeadsTo verdict z by_journal s (stepped_on verdict z by_journal core r) i seat (view_of z (r ∷ []), out) tells new)
-      × (word_tag w ≢ 0 → LeadsTo verdict z by_journal s (stepped_on verdict z by_journal core r) i seat (view_of z (r ∷ []), out) tells w)
-      × (word_tag w ≡ 0 → w ≢ old → LeadsTo verdict z by_journal s core i seat (view_of z (r ∷ []), out) tells w))
+      let tells : ℕ → Seated D → Type 0 = TriesNode verdict
+      (step slots i old new none) (view_of z (r ∷ []), out) in
+      (w ≡ old → LeadsTo verdict z by_journal s
+      (stepped_on verdict z by_journal core r) i seat (view_of z (r ∷ []), out) tells new)
+      × (word_tag w ≢ 0 → LeadsTo verdict z by_journal s
+      (stepped_on verdict z by_journal core r) i seat (view_of z (r ∷ []), out) tells w)
+      × (word_tag w ≡ 0 → w ≢ old
+      → LeadsTo verdict z by_journal s core i seat (view_of z (r ∷ []), out) tells w))
 
   -- the release of a node that was won last: one store of tag 0, the occupant and the stamp
   abbrev pub NodeReleaseIsNext : Type 0
@@ -117,7 +126,8 @@ module _ {D : Type 0} (verdict : D → Shown → Verdict) (z : Terms D) where
       (s : Content D) (core : State) (seat i x slots : ℕ) (r : Record) (out : List (ℕ × Slot))
       → IsAt verdict z by_journal s core seat r
       → IsToFreeNode verdict i x (view_of z (r ∷ []))
-      → LeadsTo verdict z by_journal s (stepped_on verdict z by_journal core r) i seat (view_of z (r ∷ []), out)
+      → LeadsTo verdict z by_journal s
+      (stepped_on verdict z by_journal core r) i seat (view_of z (r ∷ []), out)
       (λ _. ReleasesNode verdict (step slots i x 0 none) (view_of z (r ∷ []), out) x) x
 
   -- a try to take the journal, which makes its word odd, or leaves it
@@ -126,7 +136,8 @@ module _ {D : Type 0} (verdict : D → Shown → Verdict) (z : Terms D) where
       (s : Content D) (core : State) (seat slots : ℕ) (r : Record) (out : List (ℕ × Slot))
       → IsAt verdict z by_journal s core seat r
       → Takes r.caller.phase
-      → LeadsTo verdict z by_journal s (stepped_on verdict z by_journal core r) (cells z.world) seat (view_of z (r ∷ []), out)
+      → LeadsTo verdict z by_journal s (stepped_on verdict z by_journal core r)
+      (cells z.world) seat (view_of z (r ∷ []), out)
       (took verdict (step slots (cells z.world) 1 0 none) (view_of z (r ∷ []), out))
       (bit_or (slice_index s.words (cells z.world)) 1)
 
@@ -136,7 +147,8 @@ module _ {D : Type 0} (verdict : D → Shown → Verdict) (z : Terms D) where
       (s : Content D) (core : State) (seat x slots : ℕ) (r : Record) (out : List (ℕ × Slot))
       → IsAt verdict z by_journal s core seat r
       → IsToCommit verdict (journal_slot z.world) x (view_of z (r ∷ []), out)
-      → LeadsTo verdict z by_journal s (stepped_on verdict z by_journal core r) (cells z.world) seat (view_of z (r ∷ []), out)
+      → LeadsTo verdict z by_journal s (stepped_on verdict z by_journal core r)
+      (cells z.world) seat (view_of z (r ∷ []), out)
       (λ _. stored verdict (step slots (cells z.world) x 0 none) (view_of z (r ∷ []), out) x) x
 
   -- a commit that draws its place: the word of the length is one more
@@ -145,6 +157,7 @@ module _ {D : Type 0} (verdict : D → Shown → Verdict) (z : Terms D) where
       (s : Content D) (core : State) (seat slots : ℕ) (r : Record) (out : List (ℕ × Slot))
       → IsAt verdict z by_ticket s core seat r
       → Takes r.caller.phase
-      → LeadsTo verdict z by_ticket s (stepped_on verdict z by_ticket core r) (cells z.world) seat (view_of z (r ∷ []), out)
+      → LeadsTo verdict z by_ticket s (stepped_on verdict z by_ticket core r)
+      (cells z.world) seat (view_of z (r ∷ []), out)
       (drew verdict (step slots (cells z.world) 1 0 none) (view_of z (r ∷ []), out))
       ((slice_index s.words (cells z.world) + 1) % 2 ^ 64)

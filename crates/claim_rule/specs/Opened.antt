@@ -22,8 +22,8 @@ use Rattle.claim_rule.specs.Manners.{CommitWay, by_journal, by_ticket}
 use Rattle.claim_rule.specs.Stands.{records_from}
 use Rattle.claim_rule.specs.Seating.{SeatsOf}
 
--- the words at the start: each that nodes have has the occupant, no tag and stamp 0, and those of the plain cells and of the journal
--- are 0
+-- the words at the start: each that nodes have has the occupant, no tag and stamp 0,
+-- and those of the plain cells and of the journal are 0
 abbrev pub first_word : CommitWay → Cell → ℕ
 first_word by_journal (cell.Spot o) = node_word 0 o 0
 first_word by_journal (cell.Body b) = 0
@@ -32,11 +32,13 @@ first_word by_ticket x = 0
 abbrev pub first_words : CommitWay → Config → List ℕ
 first_words way world = map (first_word way) (values_of world) ++ 0 ∷ []
 
--- the slots at the start: what each body's cell holds, by the ids, and then a journal with no entry and room for all turns
+-- the slots at the start: what each body's cell holds, by the ids,
+-- and then a journal with no entry and room for all turns
 pub record AreFirstSlots (world : Config) (lists : CallerLists) (slots : List Slot) : Type 0 where
   pub journal : Kept
   pub are : slots
-      ≡ map (λ i. slot.Cell (held_by world (name.Body i))) (range_with_len 0 (length world.bots)) ++ slot.Journal journal ∷ []
+      ≡ map (λ i. slot.Cell (held_by world (name.Body i))) (range_with_len 0 (length world.bots))
+      ++ slot.Journal journal ∷ []
   pub first : journal.first ≡ world
   pub entries : journal.entries ≡ []
   pub room : length lists.ids * lists.turns ≤ journal.spare
@@ -54,8 +56,13 @@ module _ {D : Type 0} where
 module _ {D : Type 0} (verdict : D → Shown → Verdict) where
   -- the records of all callers before their first turn, by their numbers
   abbrev pub first_records : Terms D → List Record
-  first_records z = records_from verdict z 0 (map (λ (_ : List ℕ). fresh (setup_of_terms verdict z)) z.lists.ids)
+  first_records z =
+      records_from verdict z 0 (map (λ (_ : List ℕ). fresh (setup_of_terms verdict z)) z.lists.ids)
 
   -- a seat for each caller, each before its first turn
   abbrev pub first_seats : FieldOf D → SeatsOf D
-  first_seats f = record { table = f.table; terms = Some f.terms; seats = map (λ r. Some (seat_with f r)) (first_records f.terms) }
+  first_seats f = record {
+    table = f.table;
+    terms = Some f.terms;
+    seats = map (λ r. Some (seat_with f r)) (first_records f.terms);
+  }

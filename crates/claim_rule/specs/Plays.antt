@@ -36,8 +36,8 @@ use Rattle.claim_rule.specs.Manners.{CommitWay, length_in, first_plain, slot_of}
 abbrev pub IsPlaced : Setup → CellName → ℕ → Type 0
 IsPlaced g n i = (number g.world.area n ≡ Some i) × (i < cells g.world)
 
--- what is known of a zone of which these cells are held: they were read in zone order; they tell the next cell, and, if it is the whole
--- zone, what its amoebot is shown
+-- what is known of a zone of which these cells are held: they were read in zone order;
+-- they tell the next cell, and, if it is the whole zone, what its amoebot is shown
 pub record IsKnown (g : Setup) (b : ℕ) (held : Pairs) : Type 0 where
   pub order : AreReadInOrder g.world.area b (reverse held)
   pub few : length held ≤ most_cells
@@ -100,7 +100,8 @@ but_first (w ∷ ws) = ws
 abbrev pub note_of : Node → ℕ → Note
 note_of v w = record { node = v; occ = word_occ w; stamp = word_stamp w }
 
--- the record of a caller that wins the node which it noted, and that of one which finds another's tag at a node
+-- the record of a caller that wins the node which it noted,
+-- and that of one which finds another's tag at a node
 abbrev pub with_node : Setup → Record → Note → Record
 with_node g r w = record r {
   caller = caller_with_cell g r.number r.caller (name.Spot w.node) (cell.Spot w.occ);
@@ -111,11 +112,12 @@ with_node g r w = record r {
 abbrev pub refused_at : Record → Node → ℕ → Record
 refused_at r v t = record r { caller = record r.caller { phase = Refusing (name.Spot v) t }; note = None }
 
--- the stamp with which a node is freed: one more than the place of this turn's commit where its occupant has changed, and else the one
--- with which it was won
+-- the stamp with which a node is freed: one more than the place of this turn's commit
+-- where its occupant has changed, and else the one with which it was won
 pub record IsLeft (r : Record) (o : Option ℕ) (w : Note) (stamp : ℕ) : Type 0 where
   pub same : o ≡ w.occ → stamp ≡ w.stamp
-  pub changed : o ≢ w.occ → (m : Mark) × (slice_get r.caller.marks r.caller.turn ≡ Some m) × (stamp ≡ place_after m)
+  pub changed : o ≢ w.occ
+      → (m : Mark) × (slice_get r.caller.marks r.caller.turn ≡ Some m) × (stamp ≡ place_after m)
 
 -- the caller with its turn's mark, at a place
 abbrev pub marked_at : Setup → Caller → ℕ → Caller
@@ -148,7 +150,8 @@ module _ {D : Type 0} (verdict : D → Shown → Verdict) where
   -- the plain cell that the caller tried is won with its value, and its slot is out
   pub record Wins (way : CommitWay) (m m' : Seated D) : Type 0 where
     pub value : Cell
-    pub now : m'.0 ≡ goes_on m.0 (caller_with_cell (about m.0) (own m.0).number (own m.0).caller (tried m.0) value)
+    pub now : m'.0
+        ≡ goes_on m.0 (caller_with_cell (about m.0) (own m.0).number (own m.0).caller (tried m.0) value)
     pub out : m'.1 ≡ (slot_of way (about m.0).world.area (tried m.0), slot.Cell value) ∷ m.1
     pub known : IsKnown (about m.0) (bot_in m.0) ((tried m.0, value) ∷ (own m.0).caller.held)
 
@@ -158,7 +161,8 @@ module _ {D : Type 0} (verdict : D → Shown → Verdict) where
     pub out : m'.1 ≡ m.1
     pub other : IsOthers (about m.0) (own m.0).number t
 
-  -- a tag of 0 was found, and the cell is won with its value; or another's was, and the claim is refused
+  -- a tag of 0 was found, and the cell is won with its value; or another's was,
+  -- and the claim is refused
   abbrev pub Claims : CommitWay → Step Slot → Seated D → ℕ → Seated D → Type 0
   Claims way st m t m' = (t ≡ 0 → Wins way m m') × (t ≢ 0 → IsRefusedAt t m m')
 
@@ -184,7 +188,8 @@ module _ {D : Type 0} (verdict : D → Shown → Verdict) where
     pub noted : (own m.0).note ≡ Some note
     pub now : m'.0 ≡ like m.0 (with_node (about m.0) (own m.0) note ∷ [])
     pub out : m'.1 ≡ m.1
-    pub known : IsKnown (about m.0) (bot_in m.0) ((name.Spot note.node, cell.Spot note.occ) ∷ (own m.0).caller.held)
+    pub known : IsKnown (about m.0) (bot_in m.0)
+        ((name.Spot note.node, cell.Spot note.occ) ∷ (own m.0).caller.held)
 
   -- another's tag was found at the node: the claim is refused
   pub record StopsAt (m : Seated D) (t : ℕ) (m' : Seated D) : Type 0 where
@@ -206,8 +211,8 @@ module _ {D : Type 0} (verdict : D → Shown → Verdict) where
   abbrev pub LooksAt : Step Slot → Seated D → ℕ → Seated D → Type 0
   LooksAt st m t m' = (word_tag t ≡ 0 → NotesWord m t m') × (word_tag t ≢ 0 → StopsAt m t m')
 
-  -- a try to put the tag into the noted word: the node is won; or another's tag was found; or another free word, which has a greater
-  -- stamp
+  -- a try to put the tag into the noted word: the node is won; or another's tag was found;
+  -- or another free word, which has a greater stamp
   abbrev pub TriesNode : Step Slot → Seated D → ℕ → Seated D → Type 0
   TriesNode st m t m' =
       (t ≡ st.first → WinsNode m m')
@@ -232,7 +237,10 @@ module _ {D : Type 0} (verdict : D → Shown → Verdict) where
   -- the node is free
   abbrev pub ReleasesNode : Step Slot → Seated D → ℕ → Seated D → Type 0
   ReleasesNode st m t m' =
-      (m'.0 ≡ like m.0 (record (own m.0) { caller = released_caller (about m.0) (own m.0).caller; won = but_first (own m.0).won } ∷ []))
+      (m'.0 ≡ like m.0 (record (own m.0) {
+        caller = released_caller (about m.0) (own m.0).caller;
+        won = but_first (own m.0).won;
+      } ∷ []))
       × (m'.1 ≡ m.1)
 
   -- the plain cell with this number was won last, and the seat has its value to put home

@@ -12,7 +12,8 @@ use Rattle.claim_rule.specs.Tokens.{FieldOf, Token, number_in}
 abbrev pub spent : {D : Type 0} → View D
 spent {D} = record { terms = None; records = [] }
 
--- the seats of a field: its table, what it is about, and the callers' seats by their numbers, each there or given out
+-- the seats of a field: its table, what it is about, and the callers' seats by their numbers,
+-- each there or given out
 pub record SeatsOf (D : Type 0) : Type 0 where
   pub table : TableId
   pub terms : Option (Terms D)
@@ -29,8 +30,8 @@ module _ {D : Type 0} where
     pub there : slice_get seats (number_in t) ≡ Some (Some t)
     pub least : (c : ℕ) → c < number_in t → slice_get seats c ≡ Some None
 
-  -- what they keep: the seats that are there are of one table, with the same terms, by their callers' numbers; and the first seat
-  -- has dealt all its records
+  -- what they keep: the seats that are there are of one table, with the same terms,
+  -- by their callers' numbers; and the first seat has dealt all its records
   pub record AreSeats (rest : Seated D) (table : TableId) (seats : List (Option (Token D))) : Type 0 where
     pub terms : Terms D
     pub dealt : rest ≡ (view_of terms [], [])

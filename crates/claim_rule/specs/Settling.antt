@@ -34,7 +34,8 @@ module _ {D : Type 0} where
   abbrev pub with_record : Token D → Record → Token D
   with_record t r = record t { view = like t.view (r ∷ []) }
 
-  -- the whole zone is held, the verdict on it is this change, and the caller does not have the journal
+  -- the whole zone is held, the verdict on it is this change,
+  -- and the caller does not have the journal
   abbrev pub IsToTake : Token D → Change → Type 0
   IsToTake t change = (doing t).phase ≡ Taking change
 
@@ -47,14 +48,18 @@ module _ {D : Type 0} where
   untaken m = (like m.0 (record (own m.0) { taken = None } ∷ []), rest m.1)
 
   module _ (verdict : D → Shown → Verdict) where
-    -- it has committed this change: its record has gained the entry with the place in the receipt and what was found, and the turn its mark
+    -- it has committed this change: its record has gained the entry with the place in the receipt
+    -- and what was found, and the turn its mark
     pub record HasStored (old new : Token D) (change : Change) (receipt : PlacedTurn) : Type 0 where
-      pub now : new ≡ with_record old (with_commit (about verdict old.view) (record_in old) change receipt.place)
+      pub now : new
+          ≡ with_record old (with_commit (about verdict old.view) (record_in old) change receipt.place)
       pub told : receipt ≡ placed_turn (number_in old) (doing old).turn receipt.place
       pub few : receipt.place < most_turns
 
-    -- it holds its whole zone, and the journal's slot is out, with the journal as it was taken; except for the journal it is as it was
-    pub record IsTaken (m : Seated D) (c t b : ℕ) (stale : Bool) (w : Config) (pairs : Pairs) (notes : List Note)
+    -- it holds its whole zone, and the journal's slot is out, with the journal as it was taken;
+    -- except for the journal it is as it was
+    pub record IsTaken (m : Seated D) (c t b : ℕ) (stale : Bool)
+        (w : Config) (pairs : Pairs) (notes : List Note)
         (change : Change) : Type 0 where
       pub alone : m.0.records ≡ own m.0 ∷ []
       pub activation : IsActivation verdict by_journal (untaken m) c t b stale w pairs notes

@@ -54,8 +54,10 @@ abbrev pub HasTaken : Setup → State → ℕ → Option Kept → Type 0
 HasTaken g core c None = core.holder ≢ Some c
 HasTaken g core c (Some j) = (core.holder ≡ Some c) × IsCoreJournal g core j
 
--- the entries that a caller committed are those of the journal that are its own, each with its place and what was found for it
-pub record HasCommitted (g : Setup) (core : State) (c : ℕ) (ps : List Committed) (j : Option Kept) : Type 0 where
+-- the entries that a caller committed are those of the journal that are its own,
+-- each with its place and what was found for it
+pub record HasCommitted (g : Setup) (core : State) (c : ℕ)
+    (ps : List Committed) (j : Option Kept) : Type 0 where
   pub entries : map placed ps ≡ entries_of c 0 core.journal
   pub found : All (IsShownAt g core.journal) ps
   pub taken : HasTaken g core c j
@@ -69,7 +71,8 @@ pub record IsRecord (g : Setup) (core : State) (r : Record) : Type 0 where
 abbrev pub journal_slot : Config → ℕ
 journal_slot c = length c.bots
 
--- the word of the node with this number: its tag; where that is 0, its occupant; and its stamp, at most the journal's length
+-- the word of the node with this number: its tag; where that is 0, its occupant; and its stamp,
+-- at most the journal's length
 pub record IsNodeWord (core : State) (k w : ℕ) : Type 0 where
   pub tag : word_tag w ≡ cell_tag core k
   pub free : cell_tag core k ≡ 0 → slice_get core.values k ≡ Some (cell.Spot (word_occ w))
@@ -79,43 +82,54 @@ pub record IsNodeWord (core : State) (k w : ℕ) : Type 0 where
 pub record AreWords (way : CommitWay) (g : Setup) (core : State) (words : List ℕ) : Type 0 where
   pub count : length words ≡ cells g.world + 1
   pub node : (k : ℕ) → k < first_plain way g.world → IsNodeWord core k (slice_index words k)
-  pub plain : (k : ℕ) → first_plain way g.world ≤ k → k < cells g.world → slice_index words k ≡ cell_tag core k
+  pub plain : (k : ℕ) → first_plain way g.world ≤ k
+      → k < cells g.world → slice_index words k ≡ cell_tag core k
   pub journal : slice_index words (cells g.world) ≡ last_word way core
 
--- the journal's slot is at home where it has no holder; by tickets it has no slot, and nobody ever holds it
+-- the journal's slot is at home where it has no holder; by tickets it has no slot,
+-- and nobody ever holds it
 abbrev pub IsJournalHome : CommitWay → Setup → State → List (home.Option Slot) → Type 0
 IsJournalHome by_journal g core homes =
     core.holder ≡ None
-    → (j : Kept) × (get_elem? homes (journal_slot g.world) ≡ home.some (home.some (slot.Journal j))) × IsCoreJournal g core j
+    → (j : Kept) × (get_elem? homes (journal_slot g.world) ≡ home.some (home.some (slot.Journal j)))
+    × IsCoreJournal g core j
 IsJournalHome by_ticket g core homes = core.holder ≡ None
 
--- the slots of the plain cells, and that of the journal behind them: a free cell's is at home with its value
-pub record AreHomes (way : CommitWay) (g : Setup) (core : State) (homes : List (home.Option Slot)) : Type 0 where
+-- the slots of the plain cells, and that of the journal behind them:
+-- a free cell's is at home with its value
+pub record AreHomes (way : CommitWay) (g : Setup) (core : State)
+    (homes : List (home.Option Slot)) : Type 0 where
   pub count : length homes ≡ slot_count way g.world
   pub cell : (i : ℕ) (x : Cell) → slice_get core.tags (first_plain way g.world + i) ≡ Some 0
       → slice_get core.values (first_plain way g.world + i) ≡ Some x
       → get_elem? homes i ≡ home.some (home.some (slot.Cell x))
   pub journal : IsJournalHome way g core homes
 
--- the node's word says what it said when the node was won; its stamp is at most the place in this turn's mark; and the node has the
--- value with which it was won, except for a commit of this turn
-pub record IsWon (g : Setup) (words : List ℕ) (t : ℕ) (marks : List Mark) (v : Node) (x : Cell) (w : Note) : Type 0 where
+-- the node's word says what it said when the node was won;
+-- its stamp is at most the place in this turn's mark; and the node has the value with which it was
+-- won, except for a commit of this turn
+pub record IsWon (g : Setup) (words : List ℕ) (t : ℕ)
+    (marks : List Mark) (v : Node) (x : Cell) (w : Note) : Type 0 where
   pub node : w.node ≡ v
   pub occ : (i : ℕ) → number g.world.area (name.Spot v) ≡ Some i → word_occ (slice_index words i) ≡ w.occ
-  pub stamp : (i : ℕ) → number g.world.area (name.Spot v) ≡ Some i → word_stamp (slice_index words i) ≡ w.stamp
+  pub stamp : (i : ℕ) → number g.world.area (name.Spot v) ≡ Some i
+      → word_stamp (slice_index words i) ≡ w.stamp
   pub settled : (m : Mark) → slice_get marks t ≡ Some m → w.stamp ≤ place_of m
   pub value : (x ≡ cell.Spot w.occ) ⊎ ((place : ℕ) × (slice_get marks t ≡ Some (mark.Done place)))
 
 -- so it is of each node that is held, in the order of the cells that are held
 abbrev pub AreWon : (Node → Cell → Note → Type 0) → Pairs → List Note → Type 0
 AreWon Is [] ws = ws ≡ []
-AreWon Is ((name.Spot v, x) ∷ held) ws = (w : Note) × (more : List Note) × (ws ≡ w ∷ more) × Is v x w × AreWon Is held more
+AreWon Is ((name.Spot v, x) ∷ held) ws =
+    (w : Note) × (more : List Note) × (ws ≡ w ∷ more) × Is v x w × AreWon Is held more
 AreWon Is ((name.Body i, x) ∷ held) ws = AreWon Is held ws
 
 -- the node's stamp is at least the noted one, and where it is that one, so is the occupant
 pub record IsNoted (g : Setup) (words : List ℕ) (m : Note) : Type 0 where
-  pub least : (i : ℕ) → number g.world.area (name.Spot m.node) ≡ Some i → m.stamp ≤ word_stamp (slice_index words i)
-  pub same : (i : ℕ) → number g.world.area (name.Spot m.node) ≡ Some i → word_stamp (slice_index words i) ≡ m.stamp
+  pub least : (i : ℕ) → number g.world.area (name.Spot m.node) ≡ Some i
+      → m.stamp ≤ word_stamp (slice_index words i)
+  pub same : (i : ℕ) → number g.world.area (name.Spot m.node) ≡ Some i
+      → word_stamp (slice_index words i) ≡ m.stamp
       → word_occ (slice_index words i) ≡ m.occ
 
 -- what a record says of nodes' words is so
@@ -131,18 +145,22 @@ IsStampedBy by_ticket g words r = Unit {0}
 module _ {D : Type 0} where
   -- the view of a seat has this record at a place
   abbrev pub HasRecord : List (View D) → ℕ → ℕ → Record → Type 0
-  HasRecord views seat place r = (v : View D) × (get_elem? views seat ≡ home.some v) × (slice_get v.records place ≡ Some r)
+  HasRecord views seat place r =
+      (v : View D) × (get_elem? views seat ≡ home.some v) × (slice_get v.records place ≡ Some r)
 
   module _ (verdict : D → Shown → Verdict) (z : Terms D) where
-    -- each caller has exactly one record in one view, and this says what is so; a view with a record carries the terms; and a cell
-    -- with a tag has the value that its holder recorded
+    -- each caller has exactly one record in one view, and this says what is so;
+    -- a view with a record carries the terms; and a cell with a tag has
+    -- the value that its holder recorded
     pub record AreViews (core : State) (views : List (View D)) : Type 0 where
       pub terms : (seat place : ℕ) (v : View D) (r : Record)
           → get_elem? views seat ≡ home.some v
           → slice_get v.records place ≡ Some r
           → v.terms ≡ Some z
-      pub each : (seat place : ℕ) (r : Record) → HasRecord views seat place r → IsRecord (setup_of_terms verdict z) core r
-      pub some : (c : ℕ) → c < length z.lists.ids → (seat place : ℕ) × (r : Record) × HasRecord views seat place r × (r.number ≡ c)
+      pub each : (seat place : ℕ) (r : Record) → HasRecord views seat place r
+          → IsRecord (setup_of_terms verdict z) core r
+      pub some : (c : ℕ) → c < length z.lists.ids
+          → (seat place : ℕ) × (r : Record) × HasRecord views seat place r × (r.number ≡ c)
       pub one : (seat place other_seat other_place : ℕ) (r q : Record)
           → HasRecord views seat place r
           → HasRecord views other_seat other_place q
@@ -157,10 +175,12 @@ module _ {D : Type 0} where
       pub words : AreWords way (setup_of_terms verdict z) core s.words
       pub homes : AreHomes way (setup_of_terms verdict z) core s.homes
       pub views : AreViews core s.views
-      pub stamps : (seat place : ℕ) (r : Record) → HasRecord s.views seat place r → IsStampedBy way (setup_of_terms verdict z) s.words r
+      pub stamps : (seat place : ℕ) (r : Record) → HasRecord s.views seat place r
+          → IsStampedBy way (setup_of_terms verdict z) s.words r
       pub few : length core.journal + turns_left (setup_of_terms verdict z) core ≤ most_turns
 
-    -- the rule: it stands for a state that steps of the callers, the last one first, lead to from the opening
+    -- the rule: it stands for a state that steps of the callers, the last one first,
+    -- lead to from the opening
     abbrev pub KeepsRule : CommitWay → Content D → Type 0
     KeepsRule way s = (steps : List ℕ) × Stands way s (after_by way (setup_of_terms verdict z) steps)
 
@@ -170,4 +190,5 @@ module _ {D : Type 0} where
 
     -- the first seat knows all callers before their first turn
     abbrev pub first_view : View D
-    first_view = view_of z (records_from 0 (map (λ (_ : List ℕ). fresh (setup_of_terms verdict z)) z.lists.ids))
+    first_view =
+        view_of z (records_from 0 (map (λ (_ : List ℕ). fresh (setup_of_terms verdict z)) z.lists.ids))

@@ -49,7 +49,8 @@ pub record Token (D : Type 0) : Type 0 where
   pub table : TableId
   pub view : View D
 
--- what a seat knows that has noted a free word: the seat, without the note; the node; and the occupant and the stamp in its word
+-- what a seat knows that has noted a free word: the seat, without the note; the node;
+-- and the occupant and the stamp in its word
 pub record NotedOf (D : Type 0) : Type 0 where
   pub claim : Token D
   pub node : Node
@@ -66,7 +67,8 @@ pub record RefusedOf : Type 0 where
   pub by_bot : ℕ
   pub place : ℕ
 
--- a turn and a place in the journal: that of the entry which it committed, or the length that it saw with its whole zone held
+-- a turn and a place in the journal: that of the entry which it committed,
+-- or the length that it saw with its whole zone held
 pub record PlacedTurn : Type 0 where
   pub caller : ℕ
   pub turn : ℕ
@@ -86,7 +88,8 @@ refused_of c t n by place = record {
 abbrev pub placed_turn : ℕ → ℕ → ℕ → PlacedTurn
 placed_turn c t place = record { caller = c; turn = t; place = place }
 
--- the slots of the plain cells that are held are out, each with the value that is held, except where they are stale
+-- the slots of the plain cells that are held are out, each with the value that is held,
+-- except where they are stale
 abbrev pub AreOut : CommitWay → Extent → Bool → Pairs → List (ℕ × Slot) → Type 0
 AreOut way a stale [] outs = outs ≡ []
 AreOut by_journal a stale ((name.Spot v, x) ∷ held) outs = AreOut by_journal a stale held outs
@@ -94,10 +97,12 @@ AreOut by_journal a stale ((name.Body i, x) ∷ held) outs =
     (y : Cell) × (more : List (ℕ × Slot)) × (outs ≡ (i, slot.Cell y) ∷ more) × (stale ≡ false → y ≡ x)
     × AreOut by_journal a stale held more
 AreOut by_ticket a stale ((n, x) ∷ held) outs =
-    (y : Cell) × (more : List (ℕ × Slot)) × (outs ≡ (slot_of by_ticket a n, slot.Cell y) ∷ more) × (stale ≡ false → y ≡ x)
+    (y : Cell) × (more : List (ℕ × Slot))
+    × (outs ≡ (slot_of by_ticket a n, slot.Cell y) ∷ more) × (stale ≡ false → y ≡ x)
     × AreOut by_ticket a stale held more
 
--- what a caller knows of its turn while it claims: its tag, and the zone as far as the cells tell it that are held
+-- what a caller knows of its turn while it claims: its tag,
+-- and the zone as far as the cells tell it that are held
 pub record KnowsTurn (r : Room) : Type 0 where
   pub tag : r.tag ≡ tag r.caller r.turn r.bot
   pub zone : r.zone ≡ reading r.area r.bot r.cells
@@ -135,7 +140,8 @@ module _ {D : Type 0} where
   abbrev pub unnoted : Seated D → Seated D
   unnoted m = (like m.0 (with_note (own m.0) None ∷ []), m.1)
 
-  -- the whole zone is held, the verdict on it is Idle or Failed, and the journal's length was not looked at
+  -- the whole zone is held, the verdict on it is Idle or Failed,
+  -- and the journal's length was not looked at
   abbrev pub IsToLook : Token D → Type 0
   IsToLook t = (l : Look) × ((doing t).phase ≡ Looking l)
 
@@ -157,8 +163,9 @@ module _ {D : Type 0} where
     pub terms : t.view.terms ≡ Some f.terms
 
   module _ (verdict : D → Shown → Verdict) where
-    -- what a field keeps: it is about something that may be run, and has a word for each cell and for the journal,
-    -- and a slot for each plain cell and for the journal, if it has one
+    -- what a field keeps: it is about something that may be run,
+    -- and has a word for each cell and for the journal, and a slot for each plain cell
+    -- and for the journal, if it has one
     pub record IsField (way : CommitWay) (f : FieldOf D) (d : D) (w : Config) : Type 0 where
       pub run : IsSetup (setup_of_terms verdict f.terms)
       pub words : f.table.words ≡ cells f.terms.world + 1
@@ -166,21 +173,24 @@ module _ {D : Type 0} where
       pub decider : f.terms.decider ≡ d
       pub world : f.terms.world ≡ w
 
-    -- what a seat between two turns keeps: it has the record of one caller, which is to begin this turn or has ended, and no slot
+    -- what a seat between two turns keeps: it has the record of one caller,
+    -- which is to begin this turn or has ended, and no slot
     pub record IsSeat (m : Seated D) (c t : ℕ) (w : Config) : Type 0 where
       pub alone : m.0.records ≡ own m.0 ∷ []
       pub run : IsSetup (setup_at verdict m.0.terms)
       pub number : (own m.0).number ≡ c
       pub listed : c < length (setup_at verdict m.0.terms).lists.ids
       pub counted : length (own m.0).caller.marks ≡ t
-      pub rests : (own m.0).caller ≡ caller t (opening_phase (setup_at verdict m.0.terms) t) [] (own m.0).caller.marks
+      pub rests : (own m.0).caller
+          ≡ caller t (opening_phase (setup_at verdict m.0.terms) t) [] (own m.0).caller.marks
       pub taken : (own m.0).taken ≡ None
       pub won : (own m.0).won ≡ []
       pub note : (own m.0).note ≡ None
       pub out : m.1 ≡ []
       pub world : w ≡ open_frame (setup_at verdict m.0.terms).world
 
-    -- the next cell of the zone by the values that were recorded, what was found in the cells that are held, and the decision on it
+    -- the next cell of the zone by the values that were recorded,
+    -- what was found in the cells that are held, and the decision on it
     abbrev pub next_in : Token D → Option CellName
     next_in t = next_of (about verdict t.view) (bot_in verdict t.view) (doing t).held
 
@@ -190,10 +200,11 @@ module _ {D : Type 0} where
     abbrev pub verdict_in : Token D → Verdict
     verdict_in t = (about verdict t.view).verdict (found_in t)
 
-    -- what every activation keeps: the seat has the record of one caller in this turn of its list, which holds these cells, with
-    -- their values, and won the nodes among them that have words with what these notes say; the slots of the plain cells among them are
-    -- out, and stale or not
-    pub record IsActivation (way : CommitWay) (m : Seated D) (c t b : ℕ) (stale : Bool) (w : Config) (pairs : Pairs)
+    -- what every activation keeps: the seat has the record of one caller in this turn of its list,
+    -- which holds these cells, with their values, and won the nodes among them that have words
+    -- with what these notes say; the slots of the plain cells among them are out, and stale or not
+    pub record IsActivation (way : CommitWay) (m : Seated D)
+        (c t b : ℕ) (stale : Bool) (w : Config) (pairs : Pairs)
         (notes : List Note) : Type 0 where
       pub alone : m.0.records ≡ own m.0 ∷ []
       pub run : IsSetup (about verdict m.0)
@@ -213,7 +224,8 @@ module _ {D : Type 0} where
 
     -- the same of the parts of an activation: what its seat knows and has out, and its room
     abbrev pub KeepsRoom : CommitWay → Seated D → Room → Type 0
-    KeepsRoom way m r = IsActivation way m r.caller r.turn r.bot r.stale (frame_of r.area r.maxes) (reverse r.cells) (reverse r.notes)
+    KeepsRoom way m r = IsActivation way m r.caller r.turn r.bot r.stale
+        (frame_of r.area r.maxes) (reverse r.cells) (reverse r.notes)
 
     abbrev pub KeepsActivation : {W : Type 0} → CommitWay → Activation D W → Type 0
     KeepsActivation way a = KeepsRoom way a.seat.me a.room.value
@@ -222,11 +234,14 @@ module _ {D : Type 0} where
     pub record IsClaiming (m : Seated D) (t b : ℕ) (held : Pairs) : Type 0 where
       pub turn : (own m.0).caller.turn ≡ t
       pub counted : length (own m.0).caller.marks ≡ t
-      pub phase : (own m.0).caller.phase ≡ after_win (about verdict m.0) b held (next_of (about verdict m.0) b held)
+      pub phase : (own m.0).caller.phase
+          ≡ after_win (about verdict m.0) b held (next_of (about verdict m.0) b held)
       pub known : IsKnown (about verdict m.0) b held
 
-    -- it claims, and has noted this free word of this node, which is the next cell; except for the note it is as it was
-    pub record IsNoting (m : Seated D) (c t b : ℕ) (stale : Bool) (w : Config) (pairs : Pairs) (notes : List Note)
+    -- it claims, and has noted this free word of this node, which is the next cell;
+    -- except for the note it is as it was
+    pub record IsNoting (m : Seated D) (c t b : ℕ) (stale : Bool)
+        (w : Config) (pairs : Pairs) (notes : List Note)
         (v : Node) (word : ℕ) : Type 0 where
       pub alone : m.0.records ≡ own m.0 ∷ []
       pub activation : IsActivation by_journal (unnoted m) c t b stale w pairs notes
@@ -247,11 +262,13 @@ module _ {D : Type 0} where
       pub phase : (own m.0).caller.phase ≡ Refusing cell tag
 
     -- it holds its whole zone, and has this verdict on it or its mark
-    pub record HoldsWholeZone (m : Seated D) (t b : ℕ) (held : Pairs) (told : Shown) (after : ℕ) : Type 0 where
+    pub record HoldsWholeZone (m : Seated D) (t b : ℕ)
+        (held : Pairs) (told : Shown) (after : ℕ) : Type 0 where
       pub turn : (own m.0).caller.turn ≡ t
       pub whole : next_of (about verdict m.0) b held ≡ None
       pub shown : told ≡ found (about verdict m.0) b held
-      pub phase : (((own m.0).caller.phase ≡ phase_of_verdict ((about verdict m.0).verdict told)) × (length (own m.0).caller.marks ≡ t))
+      pub phase : (((own m.0).caller.phase ≡ phase_of_verdict ((about verdict m.0).verdict told))
+          × (length (own m.0).caller.marks ≡ t))
           ⊎ (((own m.0).caller.phase ≡ Releasing) × HasMark m t after)
 
     -- so it is of what its room keeps as found

@@ -83,5 +83,6 @@ module _ {D : Type 0} where
 
     -- the same for a view, which a spent one has not
     abbrev pub setup_at : Option (Terms D) → Setup
-    setup_at None = record { verdict = λ _. decision.Idle; world = nowhere; lists = record { turns = 0; ids = [] } }
+    setup_at None =
+        record { verdict = λ _. decision.Idle; world = nowhere; lists = record { turns = 0; ids = [] } }
     setup_at (Some z) = setup_of_terms z

@@ -9,8 +9,8 @@ use crate::renewal::renew;
 use amoebot_state::{Cell, CellName, MOST_CELLS};
 use std::marker::Model;
 
-/// The cells that a caller holds, the one won first at the front, each with its value. What is behind the last one is of no meaning,
-/// so that none is written when a cell goes.
+/// The cells that a caller holds, the one won first at the front, each with its value.
+/// What is behind the last one is of no meaning, so that none is written when a cell goes.
 #[derive(Drop)]
 pub(crate) struct Cells {
     all: [(CellName, Cell); MOST_CELLS],
@@ -75,7 +75,8 @@ impl Cells {
     /// Takes the last cell away.
     pub(crate) fn drop_last(&mut self)
         requires { 0 < length self.old }
-        ensures { (front : Pairs) (last : CellName × Cell) → self.old ≡ front ++ last ∷ [] → self.new ≡ front }
+        ensures { (front : Pairs) (last : CellName × Cell)
+            → self.old ≡ front ++ last ∷ [] → self.new ≡ front }
     {
         self.count -= 1;
     }

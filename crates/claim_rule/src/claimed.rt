@@ -13,7 +13,8 @@ use crate::placed::Seen;
 use amoebot_state::{Decider, Found};
 use std::marker::Model;
 
-/// A caller that holds the whole zone of its turn's amoebot. Its turn has no mark until it was looked at.
+/// A caller that holds the whole zone of its turn's amoebot.
+/// Its turn has no mark until it was looked at.
 #[derive(Drop)]
 pub struct Claimed<D: Decider, W: Manner = ByJournal> {
     pub(crate) activation: Activation<D, W>,
@@ -57,7 +58,8 @@ pub fn seal<D: Decider, W: Manner>(held: Held<D, W>) -> Claimed<D, W>
 pub fn look<D: Decider, W: Manner>(claimed: &mut Claimed<D, W>, field: &Field<'_, D, W>) -> Seen<W>
     requires field { IsOf field.now claimed.old }
     requires looks { IsToLook claimed.old }
-    ensures marked { claimed.new ≡ goes claimed.old (marked_at (about D.verdict claimed.old.view) (doing claimed.old) result.place) }
+    ensures marked { claimed.new ≡ goes claimed.old
+        (marked_at (about D.verdict claimed.old.view) (doing claimed.old) result.place) }
     ensures frees { IsMarked claimed.new }
     ensures told { result ≡ placed_turn (number_in claimed.old) (doing claimed.old).turn result.place }
     ensures few { result.place ≤ most_turns }

@@ -28,8 +28,9 @@ use claim_core::{Journal, cells_of};
 use std::alloc::Global;
 
 impl<'d, D: Decider> Field<'d, D> {
-    /// The world after all that was committed, and the journal, once all seats are back. The callers need not have ended: the seats
-    /// hold nothing, and each of their marks is right. It takes no memory.
+    /// The world after all that was committed, and the journal, once all seats are back.
+    /// The callers need not have ended: the seats hold nothing, and each of their marks is right.
+    /// It takes no memory.
     pub fn close(self, seats: Seats<D>) -> (World, Journal)
         requires field { AreOf self seats }
         requires all { All (λ seat. IsSome seat) seats.seats }
@@ -48,7 +49,8 @@ impl<'d, D: Decider> Field<'d, D> {
 }
 
 impl<'d, D: Decider> Field<'d, D, ByTicket> {
-    /// The decider, and the world before the first step, once all seats are back. The callers need not have ended; the seats hold nothing.
+    /// The decider, and the world before the first step, once all seats are back.
+    /// The callers need not have ended; the seats hold nothing.
     /// The entries are with the callers, each with its place. It takes no memory.
     pub fn end_tickets(self, seats: Seats<D, ByTicket>) -> (&'d D, World)
         requires field { AreOf self seats }
@@ -92,7 +94,8 @@ pub(crate) fn gather_all<'d, D: Decider, W: Manner>(
 fn journal_of(mut closed: Closed<Slot, Global>, bodies: usize) -> Journal
     requires count { slots_len closed.slots ≡ bodies + 1 }
     requires full { IsFull closed.slots }
-    requires journal { (kept : Kept) × (get_elem? (slots_items closed.slots) bodies ≡ some (slot.Journal kept)) }
+    requires journal { (kept : Kept)
+        × (get_elem? (slots_items closed.slots) bodies ≡ some (slot.Journal kept)) }
     ensures { get_elem? (slots_items closed.slots) bodies ≡ some (slot.Journal result) }
 {
     let last = closed.take(bodies);

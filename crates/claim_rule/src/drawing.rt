@@ -9,8 +9,9 @@ use crate::placed::Receipt;
 use crate::settled::Settled;
 use amoebot_state::{Change, Decider};
 
-/// The commit of the change that was decided on what the claim found, one step: it draws its place, and the cells that are held have the
-/// values of the patch. The caller keeps the turn's entry, with the place in the receipt.
+/// The commit of the change that was decided on what the claim found, one step: it draws its place,
+/// and the cells that are held have the values of the patch.
+/// The caller keeps the turn's entry, with the place in the receipt.
 pub fn draw<D: Decider>(
     claimed: Claimed<D, ByTicket>,
     field: &Field<'_, D, ByTicket>,

@@ -1,6 +1,8 @@
-//! The table that callers share. It is private to this module and those in it, so no other code touches a word or a slot.
+//! The table that callers share.
+//! It is private to this module and those in it, so no other code touches a word or a slot.
 //! It is laid out and given back here.
-//! `steps`, `nodes`, `slots` and `seating` have one function for each step on a word, each use of a slot, and each move of records.
+//! `steps`, `nodes`, `slots` and `seating` have one function for each step on a word,
+//! each use of a slot, and each move of records.
 ghost use Rattle.std.specs.Prelude.{◌≡◌, ◌+◌, [], Some, IfOk, IsSome};
 ghost use Rattle.std.specs.List.{All};
 ghost use Rattle.std.specs.Slots.{slots_items, slots_len, IsFull};
@@ -28,8 +30,9 @@ use claim_core::Lists;
 use std::alloc::Global;
 use std::marker::Model;
 
-/// The words and slots that the callers of a run share: a word for each cell and for the journal, and a slot for each plain cell and for
-/// the journal, if it has one. It is seen as its table and what it is about: the decider, the first world and the lists.
+/// The words and slots that the callers of a run share: a word for each cell and for the journal,
+/// and a slot for each plain cell and for the journal, if it has one.
+/// It is seen as its table and what it is about: the decider, the first world and the lists.
 #[derive(Drop)]
 pub struct Field<'d, D: Decider, W: Manner = ByJournal> {
     table: Table<Slot, View<D>, Key<'d, D>, ClaimRule<W>, Global>,
@@ -45,12 +48,14 @@ impl<'d, D: Decider, W: Manner> Model for Field<'d, D, W> {
 
     ghost view = { λ f. record {
       table = f.table.shared.table_id;
-      terms = field_terms f.table.shared.key.decider.now f.table.shared.key.world f.table.shared.key.lists.now;
+      terms = field_terms f.table.shared.key.decider.now
+          f.table.shared.key.world f.table.shared.key.lists.now;
     } };
 
     ghost invariant = { λ f. IsField D.verdict W.way (record {
       table = f.table.shared.table_id;
-      terms = field_terms f.table.shared.key.decider.now f.table.shared.key.world f.table.shared.key.lists.now;
+      terms = field_terms f.table.shared.key.decider.now
+          f.table.shared.key.world f.table.shared.key.lists.now;
     }) f.decider.now f.world };
 }
 
@@ -94,7 +99,8 @@ impl<'d, D: Decider, W: Manner> Field<'d, D, W> {
         requires words { words.items ≡ first_words W.way world }
         requires slots { AreSlotsAtFirst W.way world lists.now slots.items }
         ensures terms { IfOk result (λ made. made.0.terms ≡ field_terms decider.now world lists.now) }
-        ensures seat { IfOk result (λ made. (made.1.table_id ≡ made.0.table) × (made.1.me ≡ (first_view D.verdict made.0.terms, []))) }
+        ensures seat { IfOk result (λ made.
+            (made.1.table_id ≡ made.0.table) × (made.1.me ≡ (first_view D.verdict made.0.terms, []))) }
     {
         world.keeps();
         touches_zone(decider);

@@ -27,7 +27,8 @@ impl<D: Decider, W: Manner> Model for Freeing<D, W> {
     ghost view = { λ f. token_in f.activation };
 
     ghost invariant = { λ f. KeepsActivation D.verdict W.way f.activation
-        × IsFreeing D.verdict f.activation.seat.me f.activation.room.value.turn (cells_in f.activation) f.activation.room.value.after };
+        × IsFreeing D.verdict f.activation.seat.me f.activation.room.value.turn
+        (cells_in f.activation) f.activation.room.value.after };
 }
 
 impl<D: Decider, W: Manner> Freeing<D, W> {
@@ -79,7 +80,8 @@ fn occupant_in(value: &Cell) -> Option<u16>
     }
 }
 
-/// The word with which a node is freed that was found with this word: the same, or one with another stamp where its occupant has changed.
+/// The word with which a node is freed that was found with this word: the same,
+/// or one with another stamp where its occupant has changed.
 fn word_left(found: u64, occ: Option<u16>, after: u32) -> u64
     requires free { word_tag found ≡ 0 }
     requires few { after ≤ most_turns }

@@ -34,14 +34,16 @@ impl<D: Decider, W: Manner> Model for Held<D, W> {
     ghost view = { λ h. token_in h.activation };
 
     ghost invariant = { λ h. KeepsActivation D.verdict W.way h.activation
-        × IsClaiming D.verdict h.activation.seat.me h.activation.room.value.turn h.activation.room.value.bot (cells_in h.activation)
+        × IsClaiming D.verdict h.activation.seat.me h.activation.room.value.turn h.activation.room.value.bot
+        (cells_in h.activation)
         × KnowsTurn h.activation.room.value
         × KnowsWalls (about D.verdict h.activation.seat.me.0).world h.activation.room.value };
 }
 
 impl<D: Decider, W: Manner> Held<D, W> {
-    /// The next cell of the zone by the values that were recorded; None exactly where the whole zone is held. A zone has at most 19
-    /// cells.
+    /// The next cell of the zone by the values that were recorded;
+    /// None exactly where the whole zone is held.
+    /// A zone has at most 19 cells.
     pub fn next(&self, _field: &Field<'_, D, W>) -> Option<CellName>
         requires { IsOf _field.now self.now }
         ensures next { result ≡ next_in D.verdict self.now }
@@ -73,8 +75,11 @@ pub fn begin<D: Decider, W: Manner>(seat: Seat<D, W>, turn: u32, bot: u16) -> He
     }
 }
 
-/// The claim of the next cell of the zone. It is won with its value where nobody held it; else another caller's tag was found, and the
-/// turn claims no more. A plain cell is claimed by one try. The word of a node is looked at, and tried while it is found free and changed:
+/// The claim of the next cell of the zone.
+/// It is won with its value where nobody held it; else another caller's tag was found,
+/// and the turn claims no more.
+/// A plain cell is claimed by one try.
+/// The word of a node is looked at, and tried while it is found free and changed:
 /// each such try finds a greater stamp.
 pub fn win<D: Decider, W: Manner>(
     held: Held<D, W>,
@@ -84,8 +89,10 @@ pub fn win<D: Decider, W: Manner>(
     requires field { IsOf field.now held }
     requires next { next_in D.verdict held ≡ Some cell }
     ensures won { IfOk result (λ more. (x : Cell)
-        × (more ≡ goes held (caller_with_cell (about D.verdict held.view) (number_in held) (doing held) cell x))) }
-    ensures refused { IfErr result (λ by. (by.0 ≡ goes held (record (doing held) { phase = Refusing cell by.1 }))
+        × (more ≡ goes held
+        (caller_with_cell (about D.verdict held.view) (number_in held) (doing held) cell x))) }
+    ensures refused { IfErr result (λ by.
+        (by.0 ≡ goes held (record (doing held) { phase = Refusing cell by.1 }))
         × IsOthers (about D.verdict held.view) (number_in held) by.1) }
 {
     if !W::has_slot(cell) {
@@ -109,7 +116,8 @@ pub fn win<D: Decider, W: Manner>(
     Ok(Held { activation })
 }
 
-/// The claim of a node, which is the next cell, by its word: a look at it, and tries while it is found free.
+/// The claim of a node, which is the next cell, by its word: a look at it,
+/// and tries while it is found free.
 fn win_node<D: Decider, W: Manner>(
     held: Held<D, W>,
     field: &Field<'_, D, W>,
@@ -119,8 +127,10 @@ fn win_node<D: Decider, W: Manner>(
     requires next { next_in D.verdict held ≡ Some (name.Spot node) }
     requires words { W.way ≡ by_journal }
     ensures won { IfOk result (λ more. (x : Cell)
-        × (more ≡ goes held (caller_with_cell (about D.verdict held.view) (number_in held) (doing held) (name.Spot node) x))) }
-    ensures refused { IfErr result (λ by. (by.0 ≡ goes held (record (doing held) { phase = Refusing (name.Spot node) by.1 }))
+        × (more ≡ goes held
+        (caller_with_cell (about D.verdict held.view) (number_in held) (doing held) (name.Spot node) x))) }
+    ensures refused { IfErr result (λ by.
+        (by.0 ≡ goes held (record (doing held) { phase = Refusing (name.Spot node) by.1 }))
         × IsOthers (about D.verdict held.view) (number_in held) by.1) }
 {
     let mut noted = look_at(held, field, node)?;

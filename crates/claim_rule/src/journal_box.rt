@@ -6,7 +6,8 @@ use claim_core::Journal;
 use std::alloc::Global;
 use std::marker::Model;
 
-/// A journal in a box of its own, so that no slot is larger than a cell needs. Contracts see it as the journal.
+/// A journal in a box of its own, so that no slot is larger than a cell needs.
+/// Contracts see it as the journal.
 #[derive(Drop)]
 pub struct JournalBox {
     journal: Box<Journal>,

@@ -20,7 +20,8 @@ pub fn join_changes_nothing<D: Decider>(_decider: &D)
     ensures { (way : CommitWay) → JoinChangesNothing way D.verdict }
 {}
 
-/// What a caller has found that holds its whole zone is what the last world shows its amoebot, until its turn has its mark.
+/// What a caller has found that holds its whole zone is what the last world shows its amoebot,
+/// until its turn has its mark.
 pub fn found_is_shown<D: Decider>(_decider: &D)
     ensures { (way : CommitWay) → FoundIsShown way D.verdict }
 {}
@@ -35,19 +36,23 @@ pub fn field_ends_one_way<D: Decider>(_decider: &D)
     ensures { (way : CommitWay) → FieldEndsOneWay way D.verdict }
 {}
 
-/// What a field leaves is a run of the model in the callers' order, and each mark of its seats is right as far as the callers have come.
-/// Where all seats are there and hold nothing, as at `close`, each mark is right, whether or not the callers have ended.
+/// What a field leaves is a run of the model in the callers' order,
+/// and each mark of its seats is right as far as the callers have come.
+/// Where all seats are there and hold nothing, as at `close`, each mark is right,
+/// whether or not the callers have ended.
 pub fn field_ends_sound<D: Decider>(_decider: &D)
     ensures so_far { (way : CommitWay) → FieldEndsSound way D.verdict }
     ensures right { (way : CommitWay) → FieldEndsRight way D.verdict }
 {}
 
-/// What a field leaves whose callers have all ended, with the marks of its seats, is a report that some interleaving gives.
+/// What a field leaves whose callers have all ended, with the marks of its seats,
+/// is a report that some interleaving gives.
 pub fn ended_field_is_reached<D: Decider>(_decider: &D)
     ensures { EndedFieldIsReached D.verdict }
 {}
 
-/// The same of a field whose commits draw their places: it is a report that steps of that kind give.
+/// The same of a field whose commits draw their places:
+/// it is a report that steps of that kind give.
 pub fn ended_tickets_are_reached<D: Decider>(_decider: &D)
     ensures { EndedTicketsAreReached D.verdict }
 {}

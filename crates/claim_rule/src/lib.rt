@@ -1,4 +1,5 @@
-//! The rule over the words, slots and views of the table that callers share, and the calls that are single steps on it.
+//! The rule over the words, slots and views of the table that callers share,
+//! and the calls that are single steps on it.
 #![tactic(auto)]
 
 mod activation;

@@ -24,8 +24,9 @@ use std::alloc::Global;
 use std::marker::PhantomData;
 
 impl<'d, D: Decider> Field<'d, D> {
-    /// A field over a world, for callers with these lists of ids of amoebots of it, and a seat for each caller. It takes all memory
-    /// that the callers and `close` need.
+    /// A field over a world, for callers with these lists of ids of amoebots of it,
+    /// and a seat for each caller.
+    /// It takes all memory that the callers and `close` need.
     pub fn make(
         alloc: Global,
         decider: &'d D,
@@ -47,8 +48,8 @@ impl<'d, D: Decider> Field<'d, D> {
 }
 
 impl<'d, D: Decider> Field<'d, D, ByTicket> {
-    /// The same, of a field whose commits draw their places. It takes all memory that the callers' steps need; the entries are with the
-    /// callers.
+    /// The same, of a field whose commits draw their places.
+    /// It takes all memory that the callers' steps need; the entries are with the callers.
     pub fn make_tickets(
         alloc: Global,
         decider: &'d D,
@@ -114,7 +115,8 @@ fn words_at_first(alloc: Global, world: &World) -> Result<Vec<u64>, NoMemory>
     Ok(words)
 }
 
-/// What the slots hold at the start: what each body's cell holds, by the ids, and then the journal, with room for all turns.
+/// What the slots hold at the start: what each body's cell holds, by the ids, and then the journal,
+/// with room for all turns.
 fn first_slots(alloc: Global, world: &World, lists: &Lists) -> Result<Vec<Slot>, NoMemory>
     ensures { IfOk result (λ slots. AreFirstSlots world.now lists.now slots.items) }
 {
@@ -141,7 +143,8 @@ fn ticket_words(alloc: Global, world: &World) -> Result<Vec<u64>, NoMemory>
     Ok(words)
 }
 
-/// What the slots hold at the start where commits draw their places: what each cell holds, by the cells' numbers.
+/// What the slots hold at the start where commits draw their places: what each cell holds,
+/// by the cells' numbers.
 fn ticket_slots(alloc: Global, world: &World) -> Result<Vec<Slot>, NoMemory>
     ensures { IfOk result (λ slots. slots.items ≡ map (λ x. filling.Cell x) (values_of world.now)) }
 {

@@ -20,10 +20,12 @@ pub trait Manner: Sized {
 
     /// The number of a plain cell's slot, where `cell_number` is that of the cell.
     fn slot(cell: CellName, cell_number: usize) -> usize
-        ensures { (a : Extent) → number a cell ≡ Some cell_number → has_slot way cell ≡ true → result ≡ slot_of way a cell };
+        ensures { (a : Extent) → number a cell ≡ Some cell_number
+            → has_slot way cell ≡ true → result ≡ slot_of way a cell };
 }
 
-/// The journal is taken before a commit, and freed with it. A node has a word of its own kind, and no slot.
+/// The journal is taken before a commit, and freed with it.
+/// A node has a word of its own kind, and no slot.
 #[derive(Drop)]
 pub struct ByJournal;
 

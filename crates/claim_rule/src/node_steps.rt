@@ -1,4 +1,5 @@
-//! The claim of a node in half-steps: a look at its word, which is no claim, and a try to put the tag into the word that was found.
+//! The claim of a node in half-steps: a look at its word, which is no claim,
+//! and a try to put the tag into the word that was found.
 ghost use Rattle.std.specs.Prelude.{◌≡◌, ◌<◌, ◌≤◌, Some, IfOk, IfErr};
 ghost use Rattle.amoebot_state.specs.declared.cell.Cell.TheVariants as cell;
 ghost use Rattle.amoebot_state.specs.declared.cell.CellName.TheVariants as name;
@@ -20,8 +21,9 @@ use claim_core::cell_number;
 use std::marker::Model;
 use tri_lattice::Node;
 
-/// A caller that claims the zone of its turn's amoebot, and has found the word of the next cell, a node, free. Contracts see it as the
-/// claim, the node, and the occupant and the stamp in the word.
+/// A caller that claims the zone of its turn's amoebot, and has found the word of the next cell,
+/// a node, free.
+/// Contracts see it as the claim, the node, and the occupant and the stamp in the word.
 #[derive(Drop)]
 pub struct Noted<D: Decider, W: Manner = ByJournal> {
     pub(crate) activation: Activation<D, W>,
@@ -42,14 +44,21 @@ impl<D: Decider, W: Manner> Model for Noted<D, W> {
 
     ghost Value = { NotedOf D };
 
-    ghost view = { λ n. record { claim = token_in n.activation; node = n.node; occ = word_occ n.word; stamp = word_stamp n.word } };
+    ghost view = { λ n. record {
+      claim = token_in n.activation;
+      node = n.node;
+      occ = word_occ n.word;
+      stamp = word_stamp n.word;
+    } };
 
-    ghost invariant = { λ n. IsNoting D.verdict n.activation.seat.me n.activation.room.value.caller n.activation.room.value.turn
+    ghost invariant = { λ n.
+        IsNoting D.verdict n.activation.seat.me n.activation.room.value.caller n.activation.room.value.turn
         n.activation.room.value.bot n.activation.room.value.stale
         (frame_of n.activation.room.value.area n.activation.room.value.maxes) (cells_in n.activation)
         (notes_in n.activation) n.node n.word × KnowsTurn n.activation.room.value
         × (number n.activation.room.value.area (name.Spot n.node) ≡ Some n.index)
-        × KnowsWalls (about D.verdict n.activation.seat.me.0).world n.activation.room.value × (W.way ≡ by_journal) };
+        × KnowsWalls (about D.verdict n.activation.seat.me.0).world n.activation.room.value
+        × (W.way ≡ by_journal) };
 }
 
 impl<D: Decider, W: Manner> Noted<D, W> {
@@ -68,7 +77,8 @@ impl<D: Decider, W: Manner> Noted<D, W> {
     }
 }
 
-/// A look at the word of the next cell, a node. It is free, and noted, or another caller's tag was found, and the turn claims no more.
+/// A look at the word of the next cell, a node.
+/// It is free, and noted, or another caller's tag was found, and the turn claims no more.
 pub fn look_at<D: Decider, W: Manner>(
     held: Held<D, W>,
     field: &Field<'_, D, W>,
@@ -78,7 +88,8 @@ pub fn look_at<D: Decider, W: Manner>(
     requires field { IsOf field.now held }
     requires next { next_in D.verdict held ≡ Some (name.Spot node) }
     ensures noted { IfOk result (λ noted. (noted.claim ≡ held) × (noted.node ≡ node)) }
-    ensures refused { IfErr result (λ by. (by.0 ≡ goes held (record (doing held) { phase = Refusing (name.Spot node) by.1 }))
+    ensures refused { IfErr result (λ by.
+        (by.0 ≡ goes held (record (doing held) { phase = Refusing (name.Spot node) by.1 }))
         × IsOthers (about D.verdict held.view) (number_in held) by.1) }
 {
     let Held { mut activation } = held;
@@ -98,8 +109,9 @@ pub fn look_at<D: Decider, W: Manner>(
     })
 }
 
-/// A try to put the turn's tag into the word that was noted. The node is won with its occupant; or another free word was found, with a
-/// greater stamp, and is noted; or another caller's tag was found, and the turn claims no more.
+/// A try to put the turn's tag into the word that was noted.
+/// The node is won with its occupant; or another free word was found, with a greater stamp,
+/// and is noted; or another caller's tag was found, and the turn claims no more.
 pub fn try_at<D: Decider, W: Manner>(
     noted: Noted<D, W>,
     field: &Field<'_, D, W>,
@@ -108,10 +120,12 @@ pub fn try_at<D: Decider, W: Manner>(
     ensures won { IfOk result (λ more. more ≡ goes noted.claim
         (caller_with_cell (about D.verdict noted.claim.view) (number_in noted.claim) (doing noted.claim)
         (name.Spot noted.node) (cell.Spot noted.occ))) }
-    ensures again { IfErr result (λ found. IfOk found (λ next. (next.claim ≡ noted.claim) × (next.node ≡ noted.node)
+    ensures again { IfErr result (λ found.
+        IfOk found (λ next. (next.claim ≡ noted.claim) × (next.node ≡ noted.node)
         × (noted.stamp < next.stamp) × (next.stamp ≤ most_turns))) }
     ensures refused { IfErr result (λ found. IfErr found (λ by.
-        (by.0 ≡ goes noted.claim (record (doing noted.claim) { phase = Refusing (name.Spot noted.node) by.1 }))
+        (by.0 ≡ goes noted.claim
+        (record (doing noted.claim) { phase = Refusing (name.Spot noted.node) by.1 }))
         × IsOthers (about D.verdict noted.claim.view) (number_in noted.claim) by.1)) }
 {
     let Noted {

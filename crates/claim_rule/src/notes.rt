@@ -8,7 +8,9 @@ use amoebot_state::MOST_CELLS;
 use std::marker::Model;
 use tri_lattice::Node;
 
-/// The words of the nodes that a caller holds, as they were found free, the one won first at the front. Contracts see what they say.
+/// The words of the nodes that a caller holds, as they were found free,
+/// the one won first at the front.
+/// Contracts see what they say.
 #[derive(Drop)]
 pub(crate) struct Notes {
     all: [(Node, u64); MOST_CELLS],

@@ -10,7 +10,8 @@ use amoebot_state::Decider;
 use atomic_table::{Play, TableRule};
 use std::marker::PhantomData;
 
-/// Between any two steps, words, values at home and views stand for a state that steps of the callers lead to.
+/// Between any two steps, words, values at home and views stand for a state
+/// that steps of the callers lead to.
 pub struct ClaimRule<W = ByJournal> {
     marker: PhantomData<W>,
 }

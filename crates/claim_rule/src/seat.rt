@@ -7,8 +7,9 @@ use crate::views::{Slot, View};
 use amoebot_state::Decider;
 use std::marker::{Model, PhantomData};
 
-/// A caller between two turns. It holds no cell. It is seen as its field's table and what it knows: its caller's number, turn and
-/// marks.
+/// A caller between two turns.
+/// It holds no cell.
+/// It is seen as its field's table and what it knows: its caller's number, turn and marks.
 #[derive(Drop)]
 pub struct Seat<D: Decider, W: Manner = ByJournal> {
     pub(crate) seat: atomic_table::Seat<Slot, View<D>>,

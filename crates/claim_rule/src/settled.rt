@@ -7,7 +7,8 @@ use crate::manner::{ByJournal, Manner};
 use amoebot_state::Decider;
 use std::marker::Model;
 
-/// A caller that has committed, and still holds the whole zone, with the values after the commit. Its turn has its mark.
+/// A caller that has committed, and still holds the whole zone, with the values after the commit.
+/// Its turn has its mark.
 #[derive(Drop)]
 pub struct Settled<D: Decider, W: Manner = ByJournal> {
     pub(crate) activation: Activation<D, W>,
@@ -22,7 +23,8 @@ impl<D: Decider, W: Manner> Model for Settled<D, W> {
     ghost view = { λ s. token_in s.activation };
 
     ghost invariant = { λ s. KeepsActivation D.verdict W.way s.activation
-        × IsFreeing D.verdict s.activation.seat.me s.activation.room.value.turn (cells_in s.activation) s.activation.room.value.after
+        × IsFreeing D.verdict s.activation.seat.me s.activation.room.value.turn
+        (cells_in s.activation) s.activation.room.value.after
         × (0 < length (cells_in s.activation)) };
 }
 

@@ -1,6 +1,7 @@
-//! Each step of a seat, at whatever table stands for a state, leads to a table that stands for the state after its caller's next step;
-//! a free word of a node that is found and not won leaves the state as it was. There is such a step, and each that keeps the rule and
-//! tells what it has to tell is one.
+//! Each step of a seat, at whatever table stands for a state,
+//! leads to a table that stands for the state after its caller's next step;
+//! a free word of a node that is found and not won leaves the state as it was.
+//! There is such a step, and each that keeps the rule and tells what it has to tell is one.
 ghost use Rattle.claim_rule.specs.Manners.{CommitWay};
 ghost use Rattle.claim_rule.specs.declared.views.Terms.{Terms};
 ghost use Rattle.claim_rule.specs.Nexts.{ClaimIsNext, ReleaseIsNext, LookIsNext, TakeIsNext, CommitIsNext, DrawIsNext};

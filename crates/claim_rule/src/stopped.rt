@@ -148,7 +148,8 @@ pub fn refuse<D: Decider, W: Manner>(
 ) -> (Freeing<D, W>, Refused<W>)
     requires field { IsOf field.now stopped }
     requires refused { (doing stopped).phase ≡ Refusing cell tag }
-    ensures marked { result.0 ≡ goes stopped (marked_at (about D.verdict stopped.view) (doing stopped) result.1.place) }
+    ensures marked { result.0 ≡ goes stopped
+        (marked_at (about D.verdict stopped.view) (doing stopped) result.1.place) }
     ensures told { result.1 ≡ refused_of (number_in stopped) (doing stopped).turn cell tag result.1.place }
     ensures few { result.1.place ≤ most_turns }
 {

@@ -14,7 +14,8 @@ use crate::settled::Settled;
 use amoebot_state::{Change, Decider, Entry};
 use std::marker::Model;
 
-/// A caller that holds the whole zone of its turn's amoebot, and the journal, and commits its change next.
+/// A caller that holds the whole zone of its turn's amoebot, and the journal,
+/// and commits its change next.
 #[derive(Drop)]
 pub struct Taken<D: Decider> {
     activation: Activation<D>,
@@ -30,14 +31,16 @@ impl<D: Decider> Model for Taken<D> {
 
     ghost view = { λ t. token_in t.activation };
 
-    ghost invariant = { λ t. IsTaken D.verdict t.activation.seat.me t.activation.room.value.caller t.activation.room.value.turn
+    ghost invariant = { λ t.
+        IsTaken D.verdict t.activation.seat.me t.activation.room.value.caller t.activation.room.value.turn
         t.activation.room.value.bot t.activation.room.value.stale
         (frame_of t.activation.room.value.area t.activation.room.value.maxes) (cells_in t.activation)
         (notes_in t.activation) (change_of t.entry) × IsReadyEntry t.activation.room.value t.entry };
 }
 
-/// One try to take the journal, for the change that was decided on what the claim found. The claim and the change come back as they
-/// were where this step found that another caller has it.
+/// One try to take the journal, for the change that was decided on what the claim found.
+/// The claim and the change come back as they were where this step
+/// found that another caller has it.
 pub fn take<D: Decider>(
     claimed: Claimed<D>,
     field: &Field<'_, D>,
@@ -46,7 +49,8 @@ pub fn take<D: Decider>(
     requires field { IsOf field.now claimed }
     requires change { IsToTake claimed change }
     ensures got { IfOk result (λ taken. HasGot claimed taken change) }
-    ensures busy { IfErr result (λ back. (back.0 ≡ claimed) × (back.1 ≡ change) × IsTakenElsewhere D.verdict claimed.view) }
+    ensures busy { IfErr result (λ back.
+        (back.0 ≡ claimed) × (back.1 ≡ change) × IsTakenElsewhere D.verdict claimed.view) }
 {
     let Claimed { mut activation } = claimed;
     let entry = activation.room.ready(change);
@@ -68,10 +72,12 @@ fn change_of(entry: Entry) -> Change
     }
 }
 
-/// The commit, one step: the entry joins the journal, which is free again, and the cells that are held have the values of the patch.
+/// The commit, one step: the entry joins the journal, which is free again,
+/// and the cells that are held have the values of the patch.
 pub fn store<D: Decider>(taken: Taken<D>, field: &Field<'_, D>) -> (Settled<D>, Receipt)
     requires field { IsOf field.now taken }
-    ensures { (change : ChangeValue) × ((doing taken).phase ≡ Committing change) × HasStored D.verdict taken result.0 change result.1 }
+    ensures { (change : ChangeValue) × ((doing taken).phase ≡ Committing change)
+        × HasStored D.verdict taken result.0 change result.1 }
 {
     let Taken {
         mut activation,

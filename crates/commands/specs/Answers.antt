@@ -45,19 +45,23 @@ IsAnswerOf Outcome answer = Outcome answer.status answer.report answer.text
 abbrev pub with_text : Status → List ℕ → Answer
 with_text s text = record { status = s; report = None; text = text }
 
--- the answer of a report, with its text in a version, where an amoebot has the values of so many variables
+-- the answer of a report, with its text in a version, where an amoebot has
+-- the values of so many variables
 abbrev pub with_report : ℕ → ℕ → Report → Answer
-with_report version vars report = record { status = status.Done; report = Some report; text = report_text version vars report }
+with_report version vars report =
+    record { status = status.Done; report = Some report; text = report_text version vars report }
 
 -- ---- runs that workers make
 
 -- a text that tells a report: the report's own in a version, or the lines of a sample's number
 abbrev pub Tells : Telling → Program → CallerLists → Report → List ℕ → Type 0
 Tells (telling.Report version) p lists report text = text ≡ report_text version (length p.vars) report
-Tells (telling.Sample seed) p lists report text = IsSampleText (verdict_shown p) report.journal.first lists seed report text
+Tells (telling.Sample seed) p lists report text =
+    IsSampleText (verdict_shown p) report.journal.first lists seed report text
 
 -- an answer is done with a report, and its text tells it
-pub record TellsReport (t : Telling) (p : Program) (lists : CallerLists) (report : Report) (answer : Answer) : Type 0 where
+pub record TellsReport (t : Telling) (p : Program) (lists : CallerLists)
+    (report : Report) (answer : Answer) : Type 0 where
   pub done : answer.status ≡ status.Done
   pub its_report : answer.report ≡ Some report
   pub text : Tells t p lists report answer.text
@@ -82,7 +86,8 @@ abbrev pub ReachedBy : Maker → Setup → Report → Type 0
 ReachedBy maker.Workers g report = Reached g report
 ReachedBy maker.Tickets g report = TicketReached g report
 
--- whose lists are to be run, under which program and from which shape on, which text the run gets, and who makes its turns
+-- whose lists are to be run, under which program and from which shape on, which text the run gets,
+-- and who makes its turns
 pub data IsRunFor (run : Prepared) : Option Command → Read → Type 0 where
   -- those of a document; it gets the text of its report in the document's version
   of_document : (c : DocumentCommand) (bytes : List ℕ) (a : Contents)
@@ -100,13 +105,15 @@ pub data IsRunFor (run : Prepared) : Option Command → Read → Type 0 where
       → run.maker ≡ maker.Workers
       → IsRunFor run (Some (Sample seed)) nothing
 
--- Workers are to run lists for a command, whose amoebots are there. They are those that make the command's turns.
+-- Workers are to run lists for a command, whose amoebots are there.
+-- They are those that make the command's turns.
 -- Each good report of them, which their steps give, is owed with each text that tells it.
 pub record IsPrepared (command : Option Command) (read : Read) (run : Prepared) : Type 0 where
   pub its_maker : maker_of command ≡ turn_maker run.maker
   pub its_lists : IsRunFor run command read
   pub there : All (All (λ (id : ℕ). IsSome (bot_at run.world id))) run.lists.ids
-  pub few : (report : Report) → Good (verdict_shown run.runner) run.world run.lists report → IsCounted run.telling report
+  pub few : (report : Report) → Good (verdict_shown run.runner) run.world run.lists report
+      → IsCounted run.telling report
   pub owed : (report : Report) (text : List ℕ)
       → Good (verdict_shown run.runner) run.world run.lists report
       → ReachedBy run.maker (setup (verdict_shown run.runner) run.world run.lists) report
@@ -115,7 +122,8 @@ pub record IsPrepared (command : Option Command) (read : Read) (run : Prepared) 
 
 -- ---- tasks
 
--- What is to be done for a whole input. It is answered, which is never Done of a command whose turns workers make.
+-- What is to be done for a whole input.
+-- It is answered, which is never Done of a command whose turns workers make.
 -- Or it is a document whose lists workers are to run.
 abbrev pub IsTaskOf : DocumentCommand → List ℕ → Task → Type 0
 IsTaskOf c bytes (task.Answered answer) =

@@ -65,7 +65,10 @@ row_of Check = one_word_row (codes "check") form.Check mebibyte no_maker
 row_of Measure = one_word_row (codes "measure") form.Measure many_mebibytes no_maker
 row_of Renew = one_word_row (codes "renew") form.Replay many_mebibytes no_maker
 row_of (Rewind place) =
-    record (one_word_row (codes "rewind") form.Replay many_mebibytes no_maker) { alone = false; least = with_old_values }
+    record (one_word_row (codes "rewind") form.Replay many_mebibytes no_maker) {
+      alone = false;
+      least = with_old_values;
+    }
 row_of Rounds = one_word_row (codes "rounds") form.Replay many_mebibytes no_maker
 row_of Elect = one_word_row (codes "elect") form.Replay many_mebibytes no_maker
 row_of Tickets = one_word_row (codes "tickets") form.Run mebibyte the_tickets
@@ -78,7 +81,8 @@ form_of c = (row_of c).form
 abbrev pub least_for : DocumentCommand → ℕ
 least_for c = (row_of c).least
 
--- the bytes are a document of the command, in its form and of a version that it may have, and the document has this
+-- the bytes are a document of the command, in its form and of a version that it may have,
+-- and the document has this
 abbrev pub IsDocumentOf : DocumentCommand → List ℕ → Contents → Type 0
 IsDocumentOf c bytes a = HasContentsFrom (least_for c) (form_of c) bytes a
 

@@ -21,14 +21,16 @@ leader_word (Some id) = decimal id
 
 abbrev pub election_text : ℕ → Option ℕ → List ℕ
 election_text candidates leader =
-    line_text (codes "candidates" ∷ decimal candidates ∷ []) ++ line_text (codes "leader" ∷ leader_word leader ∷ [])
+    line_text (codes "candidates" ∷ decimal candidates ∷ [])
+    ++ line_text (codes "leader" ∷ leader_word leader ∷ [])
 
 -- the text of a world: its candidates and its leader
 abbrev pub elected_text : Config → List ℕ
 elected_text world = election_text (value_count world cand_var 1) (leader_of world)
 
 -- The program is another than `erosion`. Or it may not start from the shape.
--- Or the journal agrees, and the candidates and the leader of its last world are told; or it differs.
+-- Or the journal agrees, and the candidates and the leader of its last world are told;
+-- or it differs.
 pub data ElectOutcome (a : Contents) : Status → Option Report → List ℕ → Type 0 where
   no_erosion : (d : DocumentRecord a)
       → ¬ IsErosion d.program

@@ -1,4 +1,5 @@
--- For `elect` of the program `erosion` calls and what they owe; a world that is a ready start, and one that is elected.
+-- For `elect` of the program `erosion` calls and what they owe; a world that is a ready start,
+-- and one that is elected.
 -- One amoebot stands on a row of three nodes, or none does.
 use Rattle.std.specs.Prelude.{ℕ, List, [], ◌∷◌, ◌++◌, codes}
 use Rattle.std.specs.declared.option.Option.TheVariants.{None}
@@ -27,7 +28,8 @@ abbrev pub with_candidate : List ℕ
 with_candidate = with_erosion ++ codes "shape\narea 0 0 3 1\nbot 1 0 1 0 0 + 1 0\nend\n"
 
 abbrev pub erosion_with_nobody : List ℕ
-erosion_with_nobody = with_erosion ++ codes "shape\narea 0 0 3 1\nend\njournal\nend\nfinal\narea 0 0 3 1\nend\n"
+erosion_with_nobody =
+    with_erosion ++ codes "shape\narea 0 0 3 1\nend\njournal\nend\nfinal\narea 0 0 3 1\nend\n"
 
 -- the journal has no entry
 abbrev pub before_it_leads : List ℕ
@@ -79,8 +81,11 @@ pub record SmallElections : Type 0 where
   pub ready : IsReadyStart one_candidate
   pub elected : IsElected one_leader
   -- without an entry it does not lead yet
-  pub candidate : IsOwed (command_of (codes "elect" ∷ [])) (whole before_it_leads) status.Done None (codes "candidates 1\nleader none\n")
-  pub leader : IsOwed (command_of (codes "elect" ∷ [])) (whole once_it_leads) status.Done None (codes "candidates 1\nleader 0\n")
-  pub other_area : IsOwed (command_of (codes "elect" ∷ [])) (whole in_other_area) (status.Differs 0) None (codes "differs 0\n")
+  pub candidate : IsOwed (command_of (codes "elect" ∷ []))
+      (whole before_it_leads) status.Done None (codes "candidates 1\nleader none\n")
+  pub leader : IsOwed (command_of (codes "elect" ∷ []))
+      (whole once_it_leads) status.Done None (codes "candidates 1\nleader 0\n")
+  pub other_area : IsOwed (command_of (codes "elect" ∷ []))
+      (whole in_other_area) (status.Differs 0) None (codes "differs 0\n")
   pub nobody : IsOwed (command_of (codes "elect" ∷ [])) (whole erosion_with_nobody)
       (status.Refused bad_start) None (codes "refused 0 BadStart\n")

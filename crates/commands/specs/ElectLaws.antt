@@ -15,8 +15,9 @@ use Rattle.commands.specs.Recorded.{DocumentRecord, JournalAgrees}
 use Rattle.commands.specs.Reads.{whole}
 use Rattle.commands.specs.RenewLaws.{EndsAsReplay, IsOwedFor}
 
--- The journal of the document is a run of its program from its shape to its final shape. At most one amoebot leads in each world of that
--- run, and the text tells the candidates and the leader of the last one.
+-- The journal of the document is a run of its program from its shape to its final shape.
+-- At most one amoebot leads in each world of that run,
+-- and the text tells the candidates and the leader of the last one.
 pub record IsWonElection (a : Contents) (text : List ℕ) : Type 0 where
   pub document : DocumentRecord a
   pub entries : List Entry
@@ -34,8 +35,8 @@ ElectionsAreWon =
     → IsOwedFor Elect (whole bytes) status.Done text
     → IsWonElection a text
 
--- for a document whose program is `erosion` and whose shape is a ready start, `elect` is done where `replay` is done, and with each other
--- status it ends as `replay` does
+-- for a document whose program is `erosion` and whose shape is a ready start,
+-- `elect` is done where `replay` is done, and with each other status it ends as `replay` does
 abbrev pub ElectEndsAsReplay : Type 0
 ElectEndsAsReplay =
     (bytes : List ℕ) (a : Contents) (d : DocumentRecord a)

@@ -1,5 +1,6 @@
 -- For each status a call that owes it.
--- The document has one amoebot on a row of three nodes, and its program expands a contracted amoebot to the right.
+-- The document has one amoebot on a row of three nodes,
+-- and its program expands a contracted amoebot to the right.
 use Rattle.std.specs.Prelude.{ℕ, List, [], ◌∷◌, ◌++◌, codes, replicate}
 use Rattle.std.specs.declared.option.Option.TheVariants.{Some, None}
 use Rattle.text_tokens.specs.declared.refusal.Refusal.{Refusal}
@@ -123,7 +124,9 @@ expansion_report_text = expansion_journal ++ spread_text ++ turns_section
 
 -- of two callers the first expands it, and the second finds it idle
 abbrev pub two_callers_report : Report
-two_callers_report = record expansion_report { turns = record { turns = 1; marks = (mark.Done 0 ∷ []) ∷ (mark.Idle 1 ∷ []) ∷ [] } }
+two_callers_report = record expansion_report {
+  turns = record { turns = 1; marks = (mark.Done 0 ∷ []) ∷ (mark.Idle 1 ∷ []) ∷ [] };
+}
 
 abbrev pub both_text : List ℕ
 both_text = expansion_journal ++ spread_text ++ two_turns_text
@@ -141,7 +144,8 @@ abbrev pub renewed_expansion : List ℕ
 renewed_expansion =
     codes "amoebot 3\nprogram\nguard off\naction out\nwhen contracted\nmove expand head 0\nend\n"
     ++ codes "shape\narea 0 0 3 1\nbot 1 0 1 0 0 +\nend\n"
-    ++ codes "journal\nentry 0 0 0 0 0 expand head 0 spot 2 0 empty to 0 body 0 1 0 1 0 0 + to 2 0 1 0 0 +\nend\n"
+    ++ codes "journal\nentry 0 0 0 0 0 expand head 0 spot 2 0 empty to 0 "
+    ++ codes "body 0 1 0 1 0 0 + to 2 0 1 0 0 +\nend\n"
     ++ spread_text
 
 -- the end of an empty input is where the header is needed
@@ -152,35 +156,60 @@ pub record SmallAnswers : Type 0 where
   pub no_words : IsOwed (command_of []) nothing status.Words None usage_line
   pub two_words : IsOwed (command_of (codes "run" ∷ codes "now" ∷ [])) nothing status.Words None usage_line
   pub other_name : IsOwed (command_of (codes "show" ∷ codes "Line" ∷ [])) nothing status.Words None usage_line
-  pub other_number : IsOwed (command_of (codes "sample" ∷ codes "-1" ∷ [])) nothing status.Words None usage_line
-  pub fails : IsOwed (command_of (codes "run" ∷ [])) (up_to_fault (codes "amoe")) status.ReadFault None (codes "read fault\n")
+  pub other_number : IsOwed
+      (command_of (codes "sample" ∷ codes "-1" ∷ [])) nothing status.Words None usage_line
+  pub fails : IsOwed (command_of (codes "run" ∷ []))
+      (up_to_fault (codes "amoe")) status.ReadFault None (codes "read fault\n")
   pub long : (bytes : List ℕ)
-      → IsOwed (command_of (codes "check" ∷ [])) (above bytes) (status.Refused too_long) None (codes "refused 0 TooLong\n")
-  pub empty : IsOwed (command_of (codes "interleave" ∷ [])) (whole []) (status.Refused empty_refused) None (codes "refused 1 Truncated\n")
-  pub run : IsOwed (command_of (codes "run" ∷ [])) (whole with_list) status.Done (Some expansion_report) expansion_report_text
+      → IsOwed (command_of (codes "check" ∷ [])) (above bytes)
+      (status.Refused too_long) None (codes "refused 0 TooLong\n")
+  pub empty : IsOwed (command_of (codes "interleave" ∷ [])) (whole [])
+      (status.Refused empty_refused) None (codes "refused 1 Truncated\n")
+  pub run : IsOwed (command_of (codes "run" ∷ [])) (whole with_list) status.Done
+      (Some expansion_report) expansion_report_text
   -- one of the reports that may be told of two lists
-  pub two_lists : IsOwed (command_of (codes "run" ∷ [])) (whole with_two_lists) status.Done (Some two_callers_report) both_text
-  pub tickets : IsOwed (command_of (codes "tickets" ∷ [])) (whole with_list) status.Done (Some expansion_report) expansion_report_text
+  pub two_lists : IsOwed (command_of (codes "run" ∷ []))
+      (whole with_two_lists) status.Done (Some two_callers_report) both_text
+  pub tickets : IsOwed (command_of (codes "tickets" ∷ []))
+      (whole with_list) status.Done (Some expansion_report) expansion_report_text
   pub two_with_tickets : IsOwed (command_of (codes "tickets" ∷ [])) (whole with_two_lists)
       status.Done (Some two_callers_report) both_text
   pub interleave : IsOwed (command_of (codes "interleave" ∷ [])) (whole with_schedule)
       status.Done (Some expansion_report) expansion_report_text
-  pub agrees : IsOwed (command_of (codes "replay" ∷ [])) (whole (with_shape ++ expansion_journal ++ spread_text))
+  pub agrees : IsOwed (command_of (codes "replay" ∷ []))
+      (whole (with_shape ++ expansion_journal ++ spread_text))
       status.Done None (codes "agrees 1\n")
   -- the final shape is that of the start
-  pub differs : IsOwed (command_of (codes "replay" ∷ [])) (whole (with_shape ++ expansion_journal ++ still_text))
+  pub differs : IsOwed (command_of (codes "replay" ∷ []))
+      (whole (with_shape ++ expansion_journal ++ still_text))
       (status.Differs 1) None (codes "differs 1\n")
-  pub renew : IsOwed (command_of (codes "renew" ∷ [])) (whole (with_shape ++ expansion_journal ++ spread_text))
+  pub renew : IsOwed (command_of (codes "renew" ∷ []))
+      (whole (with_shape ++ expansion_journal ++ spread_text))
       status.Done None renewed_expansion
-  pub renew_differs : IsOwed (command_of (codes "renew" ∷ [])) (whole (with_shape ++ expansion_journal ++ still_text))
+  pub renew_differs : IsOwed (command_of (codes "renew" ∷ []))
+      (whole (with_shape ++ expansion_journal ++ still_text))
       (status.Differs 1) None (codes "differs 1\n")
   pub check : IsOwed (command_of (codes "check" ∷ [])) (whole program_text) status.Done None checked_text
   pub measure : IsOwed (command_of (codes "measure" ∷ [])) (whole with_nobody)
       status.Done None (codes "bots 0\nconnected yes\nhexagon no\n")
   pub show : IsOwed (command_of (codes "show" ∷ codes "line" ∷ [])) nothing status.Done None shown_line
-  -- what is to be done for an input that is refused at once, and for a document of `run` and of `tickets`
-  pub refused_task : IsTaskOf Interleave [] (task.Answered (with_text (status.Refused empty_refused) (refusal_line empty_refused)))
+  -- what is to be done for an input that is refused at once,
+  -- and for a document of `run` and of `tickets`
+  pub refused_task : IsTaskOf Interleave []
+      (task.Answered (with_text (status.Refused empty_refused) (refusal_line empty_refused)))
   pub run_task : IsTaskOf Run with_list
-      (task.Run (record { runner = out; world = one_alone; lists = one_list; telling = telling.Report 1; maker = maker.Workers }))
+      (task.Run (record {
+        runner = out;
+        world = one_alone;
+        lists = one_list;
+        telling = telling.Report 1;
+        maker = maker.Workers;
+      }))
   pub tickets_task : IsTaskOf Tickets with_list
-      (task.Run (record { runner = out; world = one_alone; lists = one_list; telling = telling.Report 1; maker = maker.Tickets }))
+      (task.Run (record {
+        runner = out;
+        world = one_alone;
+        lists = one_list;
+        telling = telling.Report 1;
+        maker = maker.Tickets;
+      }))

@@ -1,5 +1,6 @@
 -- For documents of version 3, and for `rewind`, `rounds` and `elect`, calls and what they owe.
--- The documents are those of the other examples: an amoebot on a row of three nodes expands to the right; or there is no amoebot.
+-- The documents are those of the other examples: an amoebot on a row of three nodes expands
+-- to the right; or there is no amoebot.
 use Rattle.std.specs.Prelude.{List, ℕ, [], ◌∷◌, ◌++◌, codes}
 use Rattle.std.specs.declared.option.Option.TheVariants.{Some, None}
 use Rattle.text_tokens.specs.declared.refusal.Refusal.{Refusal}
@@ -27,7 +28,8 @@ shape_in_version_3 =
     ++ codes "shape\narea 0 0 3 1\nbot 1 0 1 0 0 +\nend\n"
 
 abbrev pub full_journal : List ℕ
-full_journal = codes "journal\nentry 0 0 0 0 0 expand head 0 spot 2 0 empty to 0 body 0 1 0 1 0 0 + to 2 0 1 0 0 +\nend\n"
+full_journal = codes "journal\nentry 0 0 0 0 0 expand head 0 spot 2 0 empty to 0 "
+    ++ codes "body 0 1 0 1 0 0 + to 2 0 1 0 0 +\nend\n"
 
 abbrev pub full_text : List ℕ
 full_text = shape_in_version_3 ++ full_journal ++ spread_text
@@ -43,7 +45,8 @@ wide_full_text = shape_in_version_3 ++ full_journal ++ codes "final\narea 0 0 4 
 -- before the entry the node was the amoebot's, as if it had been expanded
 abbrev pub other_old_text : List ℕ
 other_old_text =
-    shape_in_version_3 ++ codes "journal\nentry 0 0 0 0 0 expand head 0 spot 2 0 0 to 0 body 0 1 0 1 0 0 + to 2 0 1 0 0 +\nend\n"
+    shape_in_version_3
+    ++ codes "journal\nentry 0 0 0 0 0 expand head 0 spot 2 0 0 to 0 body 0 1 0 1 0 0 + to 2 0 1 0 0 +\nend\n"
     ++ spread_text
 
 abbrev pub recorded_with_nobody : List ℕ
@@ -78,10 +81,14 @@ early_refused = record { line = 1; kind = kind.BadRange }
 -- ---- what is owed
 
 pub record SmallExplanations : Type 0 where
-  pub agrees_in_full : IsOwed (command_of (codes "replay" ∷ [])) (whole full_text) status.Done None (codes "agrees 1\n")
-  pub renew_in_full : IsOwed (command_of (codes "renew" ∷ [])) (whole full_text) status.Done None renewed_expansion
-  pub other_old : IsOwed (command_of (codes "replay" ∷ [])) (whole other_old_text) (status.Differs 0) None (codes "differs 0\n")
-  pub renew_other_old : IsOwed (command_of (codes "renew" ∷ [])) (whole other_old_text) (status.Differs 0) None (codes "differs 0\n")
+  pub agrees_in_full : IsOwed (command_of (codes "replay" ∷ []))
+      (whole full_text) status.Done None (codes "agrees 1\n")
+  pub renew_in_full : IsOwed (command_of (codes "renew" ∷ []))
+      (whole full_text) status.Done None renewed_expansion
+  pub other_old : IsOwed (command_of (codes "replay" ∷ []))
+      (whole other_old_text) (status.Differs 0) None (codes "differs 0\n")
+  pub renew_other_old : IsOwed (command_of (codes "renew" ∷ []))
+      (whole other_old_text) (status.Differs 0) None (codes "differs 0\n")
   -- before the entry, and behind it
   pub first_place : IsOwed (command_of (codes "rewind" ∷ codes "0" ∷ [])) (whole full_text)
       status.Done None (codes "shape\narea 0 0 3 1\nbot 1 0 1 0 0 +\nend\n")
@@ -95,11 +102,14 @@ pub record SmallExplanations : Type 0 where
   -- the final shape has another area
   pub other_frame : IsOwed (command_of (codes "rewind" ∷ codes "1" ∷ [])) (whole wide_full_text)
       (status.Differs 1) None (codes "differs 1\n")
-  pub early : IsOwed (command_of (codes "rewind" ∷ codes "0" ∷ [])) (whole (with_shape ++ expansion_journal ++ spread_text))
+  pub early : IsOwed (command_of (codes "rewind" ∷ codes "0" ∷ []))
+      (whole (with_shape ++ expansion_journal ++ spread_text))
       (status.Refused early_refused) None (codes "refused 1 BadRange\n")
-  pub rounds : IsOwed (command_of (codes "rounds" ∷ [])) (whole recorded_with_nobody) status.Done None (codes "rounds 0\nwaiting 0\n")
+  pub rounds : IsOwed (command_of (codes "rounds" ∷ []))
+      (whole recorded_with_nobody) status.Done None (codes "rounds 0\nwaiting 0\n")
   -- the final shape is that of the start
-  pub rounds_differ : IsOwed (command_of (codes "rounds" ∷ [])) (whole (with_shape ++ expansion_journal ++ still_text))
+  pub rounds_differ : IsOwed (command_of (codes "rounds" ∷ []))
+      (whole (with_shape ++ expansion_journal ++ still_text))
       (status.Differs 1) None (codes "differs 1\n")
   pub elect : IsOwed (command_of (codes "elect" ∷ [])) (whole recorded_with_nobody)
       (status.Refused not_erosion) None (codes "refused 0 NotErosion\n")

@@ -22,10 +22,13 @@ use Rattle.commands.specs.Commands.{IsDocumentOf}
 use Rattle.commands.specs.Sample.{six_lines}
 
 -- The bytes are a document of the command, which has a program, a shape and lists.
--- The report is a good one of the lists' turns under the program, from the shape on, and an interleaving gives it.
+-- The report is a good one of the lists' turns under the program, from the shape on,
+-- and an interleaving gives it.
 -- With at most one list it is what the turns leave, one after another, none of them Busy.
--- If the guard is on and the shape is connected, then it is so in each world of the run. The text is the report's.
-pub record IsRunOfDocument (c : DocumentCommand) (bytes : List ℕ) (report : Report) (text : List ℕ) : Type 0 where
+-- If the guard is on and the shape is connected, then it is so in each world of the run.
+-- The text is the report's.
+pub record IsRunOfDocument (c : DocumentCommand) (bytes : List ℕ)
+    (report : Report) (text : List ℕ) : Type 0 where
   pub contents : Contents
   pub program : Program
   pub start : Config
@@ -38,13 +41,15 @@ pub record IsRunOfDocument (c : DocumentCommand) (bytes : List ℕ) (report : Re
   pub connected : StaysConnectedIn program start report.journal.entries
   pub writes : text ≡ report_text contents.version (length program.vars) report
 
--- The report is a good one of the turns of the number's sample, and an interleaving gives it. The shape is connected in each world of
--- the run. The text is the six lines that tell so.
+-- The report is a good one of the turns of the number's sample, and an interleaving gives it.
+-- The shape is connected in each world of the run.
+-- The text is the six lines that tell so.
 pub record IsRunOfSample (seed : ℕ) (report : Report) (text : List ℕ) : Type 0 where
   pub sample : SampleValue
   pub its_sample : IsSample seed sample
   pub good : Good (verdict_shown sample.checked) sample.world sample.lists report
   pub reached : Reached (setup (verdict_shown sample.checked) sample.world sample.lists) report
   pub connected : (place : ℕ) (world : Config)
-      → IsWorldAt (verdict_shown sample.checked) sample.world report.journal.entries place world → IsConnected (occupied world)
+      → IsWorldAt (verdict_shown sample.checked) sample.world report.journal.entries place world
+      → IsConnected (occupied world)
   pub writes : text ≡ six_lines seed

@@ -1,5 +1,5 @@
--- The command `interleave`: the callers of the schedule make their steps, one after another; then each caller makes one step in rising
--- number, round after round, until all have ended.
+-- The command `interleave`: the callers of the schedule make their steps, one after another;
+-- then each caller makes one step in rising number, round after round, until all have ended.
 use Rattle.std.specs.Prelude.{◌≡◌, ◌<◌, ℕ, List, reverse}
 use Rattle.std.specs.declared.option.Option.{Option}
 use Rattle.std.specs.declared.option.Option.TheVariants.{Some}
@@ -21,7 +21,8 @@ use Rattle.commands.specs.Reports.{DocumentLists, ReportOutcome}
 abbrev pub at_round : Setup → List ℕ → ℕ → State
 at_round g schedule count = step_rounds g count (after g (reverse schedule))
 
--- the report is that of the state after the schedule and the rounds, of which the last is the first by which all callers have ended
+-- the report is that of the state after the schedule and the rounds,
+-- of which the last is the first by which all callers have ended
 pub record IsScheduled (g : Setup) (schedule : List ℕ) (report : Report) : Type 0 where
   pub count : ℕ
   pub ended : HaveEnded (at_round g schedule count)

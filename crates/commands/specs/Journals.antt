@@ -26,7 +26,8 @@ abbrev pub IsOfBots : ℕ → Journal → Type 0
 IsOfBots bots (journal.Full es) = All (λ (e : Entry). e.bot < bots) es × AreCountable es
 IsOfBots bots (journal.Plain ps) = All (λ (p : PlainEntry). p.bot < bots) ps × AreCountable ps
 
--- It is the document's program, its shape, its final shape and its journal. The journal's amoebots are the shape's.
+-- It is the document's program, its shape, its final shape and its journal.
+-- The journal's amoebots are the shape's.
 pub record IsRecordOf (a : Contents) (r : Recorded) : Type 0 where
   pub program : a.checked ≡ Some r.runner
   pub start : a.world ≡ Some r.start

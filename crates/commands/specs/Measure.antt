@@ -1,4 +1,5 @@
--- The command `measure`: how many amoebots a shape has, whether it is connected, and whether it is a hexagon.
+-- The command `measure`: how many amoebots a shape has, whether it is connected,
+-- and whether it is a hexagon.
 use Rattle.std.specs.Prelude.{◌≡◌, ℕ, Bool, true, false, List, [], ◌∷◌, ◌++◌, length, codes, decimal, Decides}
 use Rattle.std.specs.declared.option.Option.{Option}
 use Rattle.std.specs.declared.option.Option.TheVariants.{Some}

@@ -1,4 +1,5 @@
--- How a command may end for a document of its form: its status, its report if it has one, and its text.
+-- How a command may end for a document of its form: its status, its report if it has one,
+-- and its text.
 use Rattle.std.specs.Prelude.{ℕ, List}
 use Rattle.std.specs.declared.option.Option.{Option}
 use Rattle.claim_core.specs.declared.report.Report.{Report}

@@ -24,7 +24,8 @@ pub data IsOwed : Option Command → Read → Status → Option Report → List 
   -- the words are no command
   usage : IsOwed None nothing status.Words None usage_line
   -- a read failed
-  read_fault : (c : DocumentCommand) (got : List ℕ) → IsOwed (Some (Document c)) (up_to_fault got) status.ReadFault None read_fault_line
+  read_fault : (c : DocumentCommand) (got : List ℕ)
+      → IsOwed (Some (Document c)) (up_to_fault got) status.ReadFault None read_fault_line
   -- the input is longer than a document of the command may be
   longer : (c : DocumentCommand) (got : List ℕ)
       → IsOwed (Some (Document c)) (above got) (status.Refused too_long) None (refusal_line too_long)
@@ -33,7 +34,8 @@ pub data IsOwed : Option Command → Read → Status → Option Report → List 
       → IsDocumentFaultOf c bytes r
       → IsOwed (Some (Document c)) (whole bytes) (status.Refused r) None (refusal_line r)
   -- it is a document of the command, and this is an outcome of it
-  served : (c : DocumentCommand) (bytes : List ℕ) (a : Contents) (s : Status) (report : Option Report) (text : List ℕ)
+  served : (c : DocumentCommand) (bytes : List ℕ) (a : Contents)
+      (s : Status) (report : Option Report) (text : List ℕ)
       → IsDocumentOf c bytes a
       → IsOutcome a c s report text
       → IsOwed (Some (Document c)) (whole bytes) s report text

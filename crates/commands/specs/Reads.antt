@@ -17,10 +17,12 @@ pub data Read : Type 0 where
   some : List ℕ → Read
 
 -- the source came from the one state to the other by that
-module _ {S : Type 0} (left : S → Option (List ℕ)) (gives : S → List ℕ → S → Type 0) (fails : S → S → Type 0) (faults : S → ℕ) where
+module _ {S : Type 0} (left : S → Option (List ℕ)) (gives : S → List ℕ → S → Type 0)
+    (fails : S → S → Type 0) (faults : S → ℕ) where
   abbrev pub IsReading : ℕ → S → S → Read → Type 0
   IsReading limit old new nothing = new ≡ old
   IsReading limit old new (whole bytes) = ReadsWhole left gives limit old new bytes
   IsReading limit old new (above bytes) = ReadsAbove left gives limit old new bytes
-  IsReading limit old new (up_to_fault bytes) = Rose (faults old) (faults new) × ReadsUpToFault left gives fails limit old new bytes
+  IsReading limit old new (up_to_fault bytes) =
+      Rose (faults old) (faults new) × ReadsUpToFault left gives fails limit old new bytes
   IsReading limit old new (some bytes) = ReadsSome left gives limit old new bytes

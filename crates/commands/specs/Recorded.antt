@@ -42,9 +42,11 @@ pub data DiffersAt {E : Type 0} (form : Entry → E) (f : Shown → Verdict) (st
 abbrev pub differs_line : ℕ → List ℕ
 differs_line place = line_text (codes "differs" ∷ decimal place ∷ [])
 
--- How a command ends for entries that are told in a form. They agree, and it is done with a text of that run's entries.
+-- How a command ends for entries that are told in a form.
+-- They agree, and it is done with a text of that run's entries.
 -- Or they differ at a place.
-pub data EntriesOutcome {E : Type 0} (form : Entry → E) (f : Shown → Verdict) (start : Config) (told : List E) (final : Config)
+pub data EntriesOutcome {E : Type 0} (form : Entry → E)
+    (f : Shown → Verdict) (start : Config) (told : List E) (final : Config)
     (IsText : List Entry → List ℕ → Type 0) : Status → Option Report → List ℕ → Type 0 where
   agreeing : (es : List Entry) (text : List ℕ)
       → map form es ≡ told

@@ -1,4 +1,5 @@
--- The command `renew`: a document whose journal agrees, written anew with the old values of each patch.
+-- The command `renew`: a document whose journal agrees,
+-- written anew with the old values of each patch.
 use Rattle.std.specs.Prelude.{◌≡◌, ℕ, List, [], ◌∷◌, ◌++◌, length, codes}
 use Rattle.std.specs.declared.option.Option.{Option}
 use Rattle.text_tokens.specs.Lines.{line_text}
@@ -13,14 +14,18 @@ use Rattle.shape_files.specs.Documents.{Contents}
 use Rattle.commands.specs.declared.status.Status.{Status}
 use Rattle.commands.specs.Recorded.{DocumentRecord, JournalOutcome}
 
--- a document of version 3, with the program in its canonical form, the shape, the entries with their old values, and the last shape
+-- a document of version 3, with the program in its canonical form, the shape,
+-- the entries with their old values, and the last shape
 abbrev pub renewed_text : Program → Config → List Entry → Config → List ℕ
 renewed_text p start entries last =
-    line_text (codes "amoebot" ∷ codes "3" ∷ []) ++ canon p ++ shape_text (codes "shape") (length p.vars) start
+    line_text (codes "amoebot" ∷ codes "3" ∷ []) ++ canon p
+    ++ shape_text (codes "shape") (length p.vars) start
     ++ journal_text (length p.vars) entries ++ shape_text (codes "final") (length p.vars) last
 
--- the journal agrees, and the document is written with the old values of its entries; or the journal differs
+-- the journal agrees, and the document is written with the old values of its entries;
+-- or the journal differs
 abbrev pub RenewOutcome : Contents → Status → Option Report → List ℕ → Type 0
 RenewOutcome a s report text =
     (d : DocumentRecord a)
-    × JournalOutcome a d (λ (es : List Entry) (t : List ℕ). t ≡ renewed_text d.program d.start es d.final) s report text
+    × JournalOutcome a d
+    (λ (es : List Entry) (t : List ℕ). t ≡ renewed_text d.program d.start es d.final) s report text

@@ -1,4 +1,5 @@
--- The command `replay`: whether a journal is a run of the program from the shape to the final shape, and if not, where it differs.
+-- The command `replay`: whether a journal is a run of the program from the shape to the final
+-- shape, and if not, where it differs.
 use Rattle.std.specs.Prelude.{◌≡◌, ℕ, List, [], ◌∷◌, length, codes, decimal}
 use Rattle.std.specs.declared.option.Option.{Option}
 use Rattle.text_tokens.specs.Lines.{line_text}
@@ -15,4 +16,5 @@ agrees_line count = line_text (codes "agrees" ∷ decimal count ∷ [])
 -- the journal agrees, and the line has the number of its entries; or it differs
 abbrev pub ReplayOutcome : Contents → Status → Option Report → List ℕ → Type 0
 ReplayOutcome a s report text =
-    (d : DocumentRecord a) × JournalOutcome a d (λ (es : List Entry) (t : List ℕ). t ≡ agrees_line (length es)) s report text
+    (d : DocumentRecord a)
+    × JournalOutcome a d (λ (es : List Entry) (t : List ℕ). t ≡ agrees_line (length es)) s report text

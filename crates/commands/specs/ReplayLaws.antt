@@ -17,10 +17,12 @@ use Rattle.commands.specs.Owed.{IsOwed}
 -- what `replay` owes for the bytes: that the journal agrees, with the number of its entries
 abbrev pub IsAgreed : List ℕ → Report → Type 0
 IsAgreed bytes report =
-    IsOwed (Some (Document Replay)) (whole bytes) status.Done None (agrees_line (length report.journal.entries))
+    IsOwed (Some (Document Replay)) (whole bytes) status.Done None
+    (agrees_line (length report.journal.entries))
 
--- The bytes with the text behind them are a document of Replay, which has what the bytes have, and the report's entries
--- and last world, as its version has them. For it is owed that the journal agrees.
+-- The bytes with the text behind them are a document of Replay, which has what the bytes have,
+-- and the report's entries and last world, as its version has them.
+-- For it is owed that the journal agrees.
 pub record IsReplayed (bytes : List ℕ) (a : Contents) (report : Report) (text : List ℕ) : Type 0 where
   pub document : HasContents form.Replay (bytes ++ text) (recorded_with a report.journal.entries report.world)
   pub agrees : IsAgreed (bytes ++ text) report
@@ -45,14 +47,16 @@ TicketTextsAreReplayed =
 
 -- and with each such text of `interleave`, whose documents are also documents of `run`
 pub record InterleaveTextsAreReplayed : Type 0 where
-  pub is_run : (bytes : List ℕ) (a : Contents) → HasContents form.Interleave bytes a → HasContents form.Run bytes a
+  pub is_run : (bytes : List ℕ) (a : Contents)
+      → HasContents form.Interleave bytes a → HasContents form.Run bytes a
   pub replayed : (bytes : List ℕ) (a : Contents) (report : Report) (text : List ℕ)
       → EndsLine bytes
       → HasContents form.Run bytes a
       → IsOutcome a Interleave status.Done (Some report) text
       → IsReplayed bytes a report text
 
--- so where a command on such a document is done with a report, `replay` agrees on the document with what was written behind it
+-- so where a command on such a document is done with a report,
+-- `replay` agrees on the document with what was written behind it
 abbrev pub WhatIsOwedIsReplayed : Type 0
 WhatIsOwedIsReplayed =
     (c : DocumentCommand) (bytes : List ℕ) (report : Report) (text : List ℕ)

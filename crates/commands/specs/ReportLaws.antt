@@ -55,13 +55,15 @@ ScheduleHasOneReport =
 -- and at most one text of it
 abbrev pub InterleaveReportIsOne : Type 0
 InterleaveReportIsOne =
-    (f : Shown → Verdict) (start : Config) (lists : CallerLists) (schedule : List ℕ) (one two : Report) (version vars : ℕ)
+    (f : Shown → Verdict) (start : Config) (lists : CallerLists)
+    (schedule : List ℕ) (one two : Report) (version vars : ℕ)
     → IsInterleaveReport f start lists schedule one
     → IsInterleaveReport f start lists schedule two
     → SameReport one two × (report_text version vars one ≡ report_text version vars two)
 
 -- Of entries in a form: what agrees differs nowhere, and what differs does so at one place.
--- Where each change that is decided leads somewhere, a journal from a valid shape agrees or differs.
+-- Where each change that is decided leads somewhere,
+-- a journal from a valid shape agrees or differs.
 pub record ReplayIsDecided {E : Type 0} (form : Entry → E) : Type 0 where
   pub exclusive : (f : Shown → Verdict) (start final : Config) (told : List E) (place : ℕ)
       → AgreesIn form f start told final
@@ -75,7 +77,8 @@ pub record ReplayIsDecided {E : Type 0} (form : Entry → E) : Type 0 where
       → IsValid start
       → AgreesIn form f start told final ⊎ ((place : ℕ) × DiffersAt form f start told final place)
 
--- Of entries in a form: rounds are told in one way. Entries from a valid shape without gaps that agree have rounds that are told.
+-- Of entries in a form: rounds are told in one way.
+-- Entries from a valid shape without gaps that agree have rounds that are told.
 pub record RoundsAreDecided {E : Type 0} (form : Entry → E) : Type 0 where
   pub one : (f : Shown → Verdict) (start final : Config) (told : List E) (rounds waiting others still : ℕ)
       → CountedIn form f start told final rounds waiting
@@ -87,7 +90,8 @@ pub record RoundsAreDecided {E : Type 0} (form : Entry → E) : Type 0 where
       → AgreesIn form f start told final
       → (rounds : ℕ) × (waiting : ℕ) × CountedIn form f start told final rounds waiting
 
--- with the guard on and a connected shape at the start, the shape is connected in each world of the run
+-- with the guard on and a connected shape at the start, the shape
+-- is connected in each world of the run
 abbrev pub StaysConnectedIn : Program → Config → List Entry → Type 0
 StaysConnectedIn p start entries =
     p.guard ≡ true
@@ -103,7 +107,8 @@ GoodStaysConnected =
     → Good (verdict_shown p) start lists report
     → StaysConnectedIn p start report.journal.entries
 
--- the entries of a good report are those of amoebots that are there, and there is at most one for each turn
+-- the entries of a good report are those of amoebots that are there,
+-- and there is at most one for each turn
 pub record IsFew (start : Config) (lists : CallerLists) (entries : List Entry) : Type 0 where
   pub bots : All (λ (e : Entry). e.bot < length start.bots) entries
   pub few : length entries ≤ length lists.ids * lists.turns
@@ -114,7 +119,8 @@ GoodIsFew =
     → Good f start lists report
     → IsFew start lists report.journal.entries
 
--- the canonical text of a program that keeps the rules is read as a program that keeps them too, and has the same verdict
+-- the canonical text of a program that keeps the rules is read as a program that keeps them too,
+-- and has the same verdict
 abbrev pub CanonMeansTheSame : Type 0
 CanonMeansTheSame =
     (p : Program) (ts : List Lexeme) (last : Refusal)
@@ -127,12 +133,14 @@ CanonMeansTheSame =
 
 -- a shape has one text of its measures
 abbrev pub MeasureTextIsOne : Type 0
-MeasureTextIsOne = (c : Config) (text other : List ℕ) → IsMeasureText c text → IsMeasureText c other → text ≡ other
+MeasureTextIsOne =
+    (c : Config) (text other : List ℕ) → IsMeasureText c text → IsMeasureText c other → text ≡ other
 
 -- a report has one text as that of a sample
 abbrev pub SampleTextIsOne : Type 0
 SampleTextIsOne =
-    (f : Shown → Verdict) (start : Config) (lists : CallerLists) (seed : ℕ) (report : Report) (text other : List ℕ)
+    (f : Shown → Verdict) (start : Config) (lists : CallerLists)
+    (seed : ℕ) (report : Report) (text other : List ℕ)
     → IsSampleText f start lists seed report text
     → IsSampleText f start lists seed report other
     → text ≡ other

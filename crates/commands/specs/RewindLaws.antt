@@ -16,7 +16,8 @@ use Rattle.commands.specs.Recorded.{DocumentRecord}
 use Rattle.commands.specs.Owed.{IsOwed}
 use Rattle.commands.specs.Reads.{whole}
 
--- where the journal of a document is a run from its shape to its final shape, `rewind` owes the shape that the run has at the place
+-- where the journal of a document is a run from its shape to its final shape,
+-- `rewind` owes the shape that the run has at the place
 abbrev pub RewindUndoesReplay : Type 0
 RewindUndoesReplay =
     (bytes : List ℕ) (a : Contents) (d : DocumentRecord a) (es : List Entry) (place : ℕ) (world : Config)
@@ -24,4 +25,5 @@ RewindUndoesReplay =
     → a.entries ≡ Some es
     → Run (verdict_shown d.program) d.start es d.final
     → IsWorldAt (verdict_shown d.program) d.start es place world
-    → IsOwed (Some (Document (Rewind place))) (whole bytes) status.Done None (shape_text (codes "shape") (length d.program.vars) world)
+    → IsOwed (Some (Document (Rewind place))) (whole bytes) status.Done None
+    (shape_text (codes "shape") (length d.program.vars) world)

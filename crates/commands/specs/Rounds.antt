@@ -1,4 +1,5 @@
--- The command `rounds`: how many asynchronous rounds of a run have ended, and how many amoebots wait.
+-- The command `rounds`: how many asynchronous rounds of a run have ended,
+-- and how many amoebots wait.
 use Rattle.std.specs.Prelude.{◌≡◌, ℕ, List, [], ◌∷◌, ◌++◌, codes, decimal, map}
 use Rattle.std.specs.declared.option.Option.{Option}
 use Rattle.text_tokens.specs.Lines.{line_text}
@@ -14,13 +15,16 @@ use Rattle.shape_files.specs.Documents.{Contents}
 use Rattle.commands.specs.declared.status.Status.{Status}
 use Rattle.commands.specs.Recorded.{Agrees, DocumentRecord, JournalOutcome}
 
--- the entries are a run from the start to the final shape, so many rounds of it have ended, and so many amoebots wait
-pub record AgreesInRounds (f : Shown → Verdict) (start : Config) (entries : List Entry) (final : Config) (rounds waiting : ℕ) : Type 0 where
+-- the entries are a run from the start to the final shape, so many rounds of it have ended,
+-- and so many amoebots wait
+pub record AgreesInRounds (f : Shown → Verdict) (start : Config)
+    (entries : List Entry) (final : Config) (rounds waiting : ℕ) : Type 0 where
   pub agrees : Agrees f start entries final
   pub counted : IsRounded f start entries rounds waiting
 
 -- entries that are told in a form are those of such a run
-abbrev pub CountedIn : {E : Type 0} → (Entry → E) → (Shown → Verdict) → Config → List E → Config → ℕ → ℕ → Type 0
+abbrev pub CountedIn : {E : Type 0} → (Entry → E)
+    → (Shown → Verdict) → Config → List E → Config → ℕ → ℕ → Type 0
 CountedIn form f start told final rounds waiting =
     InForm (map form) (λ (es : List Entry). AgreesInRounds f start es final rounds waiting) told
 
@@ -29,7 +33,8 @@ rounds_text rounds waiting =
     line_text (codes "rounds" ∷ decimal rounds ∷ []) ++ line_text (codes "waiting" ∷ decimal waiting ∷ [])
 
 -- the text of a run's entries: how many of its rounds have ended, and how many amoebots wait
-pub record IsRoundsText (f : Shown → Verdict) (start : Config) (entries : List Entry) (text : List ℕ) : Type 0 where
+pub record IsRoundsText (f : Shown → Verdict) (start : Config)
+    (entries : List Entry) (text : List ℕ) : Type 0 where
   pub rounds : ℕ
   pub waiting : ℕ
   pub counted : IsRounded f start entries rounds waiting

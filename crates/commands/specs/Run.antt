@@ -15,15 +15,20 @@ use Rattle.shape_files.specs.Documents.{Contents}
 use Rattle.commands.specs.declared.status.Status.{Status}
 use Rattle.commands.specs.Reports.{DocumentLists, ReportOutcome}
 
--- The report is a good one, and steps of one kind give it: `Reached`, or `TicketReached` where commits draw their places.
--- With at most one list it is what its turns leave, one after another, each the verdict on the world reached and none Busy.
-pub record IsRunReport (IsReached : Setup → Report → Type 0) (f : Shown → Verdict) (start : Config) (lists : CallerLists)
+-- The report is a good one, and steps of one kind give it: `Reached`,
+-- or `TicketReached` where commits draw their places.
+-- With at most one list it is what its turns leave, one after another,
+-- each the verdict on the world reached and none Busy.
+pub record IsRunReport (IsReached : Setup → Report → Type 0)
+    (f : Shown → Verdict) (start : Config) (lists : CallerLists)
     (report : Report) : Type 0 where
   pub good : Good f start lists report
   pub reached : IsReached (setup f start lists) report
   pub serial : length lists.ids ≤ 1 → SerialRun f start lists (all_turns lists) (left_by report)
 
--- the report is one of a run of the document's lists, which an interleaving of their callers' steps gives
+-- the report is one of a run of the document's lists,
+-- which an interleaving of their callers' steps gives
 abbrev pub RunOutcome : Contents → Status → Option Report → List ℕ → Type 0
 RunOutcome a =
-    ReportOutcome a (λ (d : DocumentLists a) (report : Report). IsRunReport Reached (verdict_shown d.program) d.start d.lists report)
+    ReportOutcome a (λ (d : DocumentLists a) (report : Report).
+    IsRunReport Reached (verdict_shown d.program) d.start d.lists report)

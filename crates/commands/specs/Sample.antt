@@ -27,17 +27,20 @@ sample_text seed bots callers turns connected agrees = lines_text (
     ∷ (codes "replay" ∷ yes_or_no agrees ∷ [])
     ∷ [])
 
--- the text of a report: its number, how many amoebots, callers and turns there are, whether the last world is connected,
--- and whether the journal is a run from the world at the start to the last one
+-- the text of a report: its number, how many amoebots, callers and turns there are,
+-- whether the last world is connected, and whether the journal is a run
+-- from the world at the start to the last one
 pub record IsSampleText (f : Shown → Verdict) (start : Config) (lists : CallerLists) (seed : ℕ)
     (report : Report) (text : List ℕ) : Type 0 where
   pub connected : Bool
   pub agrees : Bool
   pub is_connected : Decides connected (IsConnected (occupied report.world))
   pub is_run : Decides agrees (Agrees f start report.journal.entries report.world)
-  pub whole : text ≡ sample_text seed (length start.bots) (length lists.ids) (length lists.ids * lists.turns) connected agrees
+  pub whole : text ≡ sample_text seed (length start.bots)
+      (length lists.ids) (length lists.ids * lists.turns) connected agrees
 
--- the report is a good one of the turns of the number's sample, an interleaving gives it, and the text tells it
+-- the report is a good one of the turns of the number's sample, an interleaving gives it,
+-- and the text tells it
 pub record IsTextOfSample (seed : ℕ) (report : Report) (text : List ℕ) : Type 0 where
   pub sample : Sample
   pub its_sample : IsSample seed sample
@@ -47,4 +50,5 @@ pub record IsTextOfSample (seed : ℕ) (report : Report) (text : List ℕ) : Typ
 
 -- what such a text is
 abbrev pub six_lines : ℕ → List ℕ
-six_lines seed = line_text (codes "sample" ∷ decimal seed ∷ []) ++ codes "bots 150\ncallers 4\nturns 16000\nconnected yes\nreplay yes\n"
+six_lines seed = line_text (codes "sample" ∷ decimal seed ∷ [])
+    ++ codes "bots 150\ncallers 4\nturns 16000\nconnected yes\nreplay yes\n"

@@ -51,6 +51,8 @@ abbrev pub of_subcommand : Option (Text × List Row) → Option Command
 of_subcommand None = None
 of_subcommand (Some (word, arguments)) =
     if bytes_eq (codes "show") word then option_and_then (show_in shipped) (first_of (codes "NAME") arguments)
-    else if bytes_eq (codes "sample") word then option_and_then (numbered_by Sample) (first_of (codes "NUMBER") arguments)
-    else if bytes_eq (codes "rewind") word then option_and_then (numbered_by rewind_to) (first_of (codes "NUMBER") arguments)
+    else if bytes_eq (codes "sample") word
+    then option_and_then (numbered_by Sample) (first_of (codes "NUMBER") arguments)
+    else if bytes_eq (codes "rewind") word
+    then option_and_then (numbered_by rewind_to) (first_of (codes "NUMBER") arguments)
     else document_in documents word

@@ -12,4 +12,5 @@ use Rattle.commands.specs.Run.{IsRunReport}
 -- the report is one of a run of the document's lists, which such steps give
 abbrev pub TicketsOutcome : Contents → Status → Option Report → List ℕ → Type 0
 TicketsOutcome a =
-    ReportOutcome a (λ (d : DocumentLists a) (report : Report). IsRunReport TicketReached (verdict_shown d.program) d.start d.lists report)
+    ReportOutcome a (λ (d : DocumentLists a) (report : Report).
+    IsRunReport TicketReached (verdict_shown d.program) d.start d.lists report)

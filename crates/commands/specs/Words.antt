@@ -36,9 +36,11 @@ pub record IsNumberWord (digits : List ℕ) (number : ℕ) : Type 0 where
 -- one word; or `rewind` and a number; or `show` and the name of a program; or `sample` and a number
 pub data AreWordsOf : Command → List (List ℕ) → Type 0 where
   document : (c : DocumentCommand) → is_one_word c ≡ true → AreWordsOf (Document c) (word_of c ∷ [])
-  rewind : (digits : List ℕ) (place : ℕ) → IsNumberWord digits place → AreWordsOf (Document (Rewind place)) (codes "rewind" ∷ digits ∷ [])
+  rewind : (digits : List ℕ) (place : ℕ) → IsNumberWord digits place
+      → AreWordsOf (Document (Rewind place)) (codes "rewind" ∷ digits ∷ [])
   show : (program : Shipped) → AreWordsOf (Show program) (codes "show" ∷ shipped_name program ∷ [])
-  sample : (digits : List ℕ) (seed : ℕ) → IsNumberWord digits seed → AreWordsOf (Sample seed) (codes "sample" ∷ digits ∷ [])
+  sample : (digits : List ℕ) (seed : ℕ) → IsNumberWord digits seed
+      → AreWordsOf (Sample seed) (codes "sample" ∷ digits ∷ [])
 
 -- ---- which command words are
 
@@ -53,7 +55,8 @@ documents = Run ∷ Interleave ∷ Replay ∷ Check ∷ Measure ∷ Renew ∷ Ro
 -- the first of some programs whose name this is
 abbrev pub show_in : List Shipped → List ℕ → Option Command
 show_in [] name = None
-show_in (program ∷ programs) name = if bytes_eq (shipped_name program) name then Some (Show program) else show_in programs name
+show_in (program ∷ programs) name =
+    if bytes_eq (shipped_name program) name then Some (Show program) else show_in programs name
 
 abbrev pub shipped : List Shipped
 shipped = Hexagon ∷ Erosion ∷ Line ∷ []
@@ -62,7 +65,8 @@ abbrev pub are_few_digits : List ℕ → Bool
 are_few_digits digits = nat_le (length digits) 10 && list_all is_ascii_digit digits
 
 unfoldable pub is_number_word : List ℕ → Bool
-is_number_word digits = are_few_digits digits && (nat_le 1 (length digits) && nat_lt (digits_value 10 digits) (2 ^ 32))
+is_number_word digits =
+    are_few_digits digits && (nat_le 1 (length digits) && nat_lt (digits_value 10 digits) (2 ^ 32))
 
 -- the number that a word writes, where it is one
 unfoldable pub number_of : List ℕ → Option ℕ

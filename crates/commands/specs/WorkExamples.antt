@@ -1,5 +1,5 @@
--- What the commands leave of two amoebots that stand side by side on a row of three nodes, where the program expands a contracted
--- amoebot to the right.
+-- What the commands leave of two amoebots that stand side by side on a row of three nodes,
+-- where the program expands a contracted amoebot to the right.
 use Rattle.std.specs.Prelude.{◌≡◌, ℕ, List, [], ◌∷◌, ◌++◌, codes, true, false}
 use Rattle.std.specs.declared.option.Option.TheVariants.{Some, None}
 use Rattle.amoebot_state.specs.declared.cell.CellName.TheVariants as name
@@ -68,10 +68,12 @@ its_plain_journal = codes "journal\nentry 0 0 0 1 0 expand head 0 spot 2 0 1 bod
 
 abbrev pub its_journal : List ℕ
 its_journal =
-    codes "journal\nentry 0 0 0 1 0 expand head 0 spot 2 0 empty to 1 body 1 1 0 1 0 0 + to 2 0 1 0 0 +\nend\n"
+    codes "journal\nentry 0 0 0 1 0 expand head 0 spot 2 0 empty to 1 "
+    ++ codes "body 1 1 0 1 0 0 + to 2 0 1 0 0 +\nend\n"
 
 abbrev pub its_end : List ℕ
-its_end = codes "final\narea 0 0 3 1\nbot 0 0 0 0 0 +\nbot 2 0 1 0 0 +\nend\nturns\nturn 0 0 done 0\nturn 0 1 idle 1\nend\n"
+its_end = codes "final\narea 0 0 3 1\nbot 0 0 0 0 0 +\nbot 2 0 1 0 0 +\n"
+    ++ codes "end\nturns\nturn 0 0 done 0\nturn 0 1 idle 1\nend\n"
 
 -- Two lists of one turn. Caller 0 finds a node of caller 1 held and gives up.
 -- Caller 1 goes on until it has committed and freed a cell. The rounds free its other four.
@@ -88,7 +90,8 @@ abbrev pub counting_renewed : List ℕ
 counting_renewed =
     codes "amoebot 3\n" ++ counting_program
     ++ codes "shape\narea 0 0 3 1\nbot 0 0 0 0 0 + 0\nbot 1 0 1 0 0 + 0\nend\n"
-    ++ codes "journal\nentry 0 0 0 1 0 expand head 0 spot 2 0 empty to 1 body 1 1 0 1 0 0 + 0 to 2 0 1 0 0 + 0\nend\n"
+    ++ codes "journal\nentry 0 0 0 1 0 expand head 0 spot 2 0 empty to 1 "
+    ++ codes "body 1 1 0 1 0 0 + 0 to 2 0 1 0 0 + 0\nend\n"
     ++ codes "final\narea 0 0 3 1\nbot 0 0 0 0 0 + 0\nbot 2 0 1 0 0 + 0\nend\n"
 
 -- the row without an amoebot
@@ -102,7 +105,8 @@ one_alone = with_these row_frame (bot_in_row 1 1 ∷ [])
 abbrev pub two_apart : Config
 two_apart = row_with (bot_in_row 2 2)
 
--- What a meter keeps at the start, and once the second amoebot has expanded. The first amoebot is not enabled before and behind that.
+-- What a meter keeps at the start, and once the second amoebot has expanded.
+-- The first amoebot is not enabled before and behind that.
 -- The entry settles the second one, and so it ends the first round.
 abbrev pub meter_at_start : Metered
 meter_at_start = record {
@@ -131,7 +135,8 @@ pub record SmallCommands : Type 0 where
   -- the amoebot is expanded when it is to expand again
   pub differs : DiffersAt full_entry decides start (second_expansion ∷ second_expansion ∷ []) second_spread 1
   pub other_shape : DiffersAt full_entry decides start (second_expansion ∷ []) start 1
-  -- the first amoebot rests, since the second one stands before it, and the second one acts: a round, after which both rest
+  -- the first amoebot rests, since the second one stands before it, and the second one acts:
+  -- a round, after which both rest
   pub one_round : AgreesInRounds decides start (second_expansion ∷ []) second_spread 1 0
   -- a meter counts that round, and nobody waits then
   pub goes_on : GoesOnIn plain_entry decides (plain_entry second_expansion) meter_at_start meter_behind
@@ -139,7 +144,8 @@ pub record SmallCommands : Type 0 where
   -- the same entries without their old values
   pub plain_agrees : AgreesIn plain_entry decides start (plain_entry second_expansion ∷ []) second_spread
   pub plain_round : CountedIn plain_entry decides start (plain_entry second_expansion ∷ []) second_spread 1 0
-  pub plain_differs : DiffersAt plain_entry decides start (plain_entry second_expansion ∷ plain_entry second_expansion ∷ []) second_spread 1
+  pub plain_differs : DiffersAt plain_entry decides start
+      (plain_entry second_expansion ∷ plain_entry second_expansion ∷ []) second_spread 1
   -- with another old value the entry is no step; without it, that does not show
   pub other_old : DiffersAt full_entry decides start (other_old_value ∷ []) second_spread 0
   pub no_old : AgreesIn plain_entry decides start (plain_entry other_old_value ∷ []) second_spread

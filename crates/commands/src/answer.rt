@@ -14,7 +14,8 @@ use claim_core::{Lists, Report};
 use std::alloc::Global;
 use text_tokens::{Lines, Refusal, Text};
 
-/// What a command answers: how it ended, its report if it ran, and the text or line that is to be written.
+/// What a command answers: how it ended, its report if it ran,
+/// and the text or line that is to be written.
 #[derive(Drop)]
 pub struct Answer {
     pub status: Status,
@@ -40,7 +41,8 @@ pub enum Maker {
     Tickets,
 }
 
-/// A run that is prepared: its decider, the world at its start, its callers' lists, which text it gets, and who makes its turns.
+/// A run that is prepared: its decider, the world at its start, its callers' lists,
+/// which text it gets, and who makes its turns.
 #[derive(Drop)]
 pub struct Prepared {
     pub runner: Runner,

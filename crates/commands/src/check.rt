@@ -48,7 +48,8 @@ pub fn print_check(alloc: Global, version: u8, program: &Program) -> Result<Text
     Ok(lines.text())
 }
 
-/// The canonical text of a program that keeps the rules is read as a program that keeps them too, and has the same verdict.
+/// The canonical text of a program that keeps the rules is read as a program that keeps them too,
+/// and has the same verdict.
 pub fn canon_means_the_same()
     ensures { CanonMeansTheSame }
 {}

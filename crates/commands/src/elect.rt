@@ -28,7 +28,8 @@ use shape_files::{Parts, documents_are_sound, least_versions_are_kept};
 use std::alloc::{AllocError, Global};
 use text_tokens::{Lines, Refusal, RefusalKind, Text};
 
-/// The program is judged, then the shape at the start. Then the journal is compared as for `replay`, and its last world is told.
+/// The program is judged, then the shape at the start.
+/// Then the journal is compared as for `replay`, and its last world is told.
 pub(crate) fn answer_elect(alloc: Global, parts: Parts) -> Result<Answer, NoMemory>
     requires { Fits (form_of DocumentCommand.Elect) (contents parts) }
     ensures { IfOk result (IsAnswerOf (ElectOutcome (contents parts))) }
@@ -52,7 +53,8 @@ pub(crate) fn answer_elect(alloc: Global, parts: Parts) -> Result<Answer, NoMemo
     }
 }
 
-/// The answer to entries in a form, of an election that begins, whose amoebots are those of its world.
+/// The answer to entries in a form, of an election that begins,
+/// whose amoebots are those of its world.
 fn elect<E: EntryForm>(
     alloc: Global,
     mut election: Election,
@@ -62,7 +64,8 @@ fn elect<E: EntryForm>(
     requires there { All (λ e. E.bot e < length election.world.bots) entries.now }
     requires few { AreCountable entries.now }
     requires begun { election.steps ≡ 0 }
-    ensures { IfOk result (IsAnswerOf (EntriesOutcome E.form (verdict_shown election.program) election.world entries.now last.now
+    ensures { IfOk result (
+        IsAnswerOf (EntriesOutcome E.form (verdict_shown election.program) election.world entries.now last.now
         (λ _ text. text ≡ elected_text last.now))) }
 {
     let made = make_steps(&mut election, entries, last);
@@ -78,7 +81,8 @@ fn whole_document(kind: RefusalKind) -> Refusal
 
 /// The answer to a start that is refused, except where there was not enough memory to judge it.
 fn refuse_start(alloc: Global, refusal: ElectRefusal) -> Result<Answer, NoMemory>
-    ensures { IfOk result (λ answer. (refusal ≢ ElectRefusal.NoMemory) × (answer ≡ with_text (Status.Refused bad_start) (refusal_line bad_start))) }
+    ensures { IfOk result (λ answer. (refusal ≢ ElectRefusal.NoMemory)
+        × (answer ≡ with_text (Status.Refused bad_start) (refusal_line bad_start))) }
 {
     match start_fault(refusal) {
         Some(fault) => refuse(alloc, fault),
@@ -99,7 +103,8 @@ fn start_fault(refusal: ElectRefusal) -> Option<Refusal>
     }
 }
 
-/// The answer that is the candidates and the leader of an election whose steps are made, or that its journal differs.
+/// The answer that is the candidates and the leader of an election whose steps are made,
+/// or that its journal differs.
 fn tell_election(
     alloc: Global,
     election: &Election,
@@ -119,8 +124,9 @@ fn tell_election(
     }
 }
 
-/// Makes the steps of entries in a form, which lead to the last world. Otherwise it returns the first place that is no step; or the
-/// number of entries, where they lead to another world.
+/// Makes the steps of entries in a form, which lead to the last world.
+/// Otherwise it returns the first place that is no step; or the number of entries,
+/// where they lead to another world.
 fn make_steps<E: EntryForm>(
     election: &mut Election,
     entries: &[E],
@@ -129,10 +135,12 @@ fn make_steps<E: EntryForm>(
     requires there { All (λ e. E.bot e < length election.old.world.bots) entries.now }
     requires few { AreCountable entries.now }
     requires begun { election.old.steps ≡ 0 }
-    ensures agrees { OnOk result (AgreesIn E.form (verdict_shown election.old.program) election.old.world entries.now last.now) }
+    ensures agrees { OnOk result (
+        AgreesIn E.form (verdict_shown election.old.program) election.old.world entries.now last.now) }
     ensures reached { OnOk result (election.new.world ≡ last.now) }
     ensures differs { IfErr result (λ e.
-        DiffersAt E.form (verdict_shown election.old.program) election.old.world entries.now last.now e.place) }
+        DiffersAt E.form
+        (verdict_shown election.old.program) election.old.world entries.now last.now e.place) }
 {
     for told in entries {
         election.step_in(told)?;
@@ -165,8 +173,10 @@ fn put_leader(lines: &mut Lines, leader: Option<u16>) -> Result<(), AllocError>
     }
 }
 
-/// Where `elect` is done, the journal is a run in each world of which at most one amoebot leads, and the text tells its last world.
-/// For a document that is not refused, `elect` is done exactly where `replay` is, and ends as `replay` with each other status.
+/// Where `elect` is done, the journal is a run in each world of which at most one amoebot leads,
+/// and the text tells its last world.
+/// For a document that is not refused, `elect` is done exactly where `replay` is,
+/// and ends as `replay` with each other status.
 pub fn elections_are_won()
     ensures won { ElectionsAreWon }
     ensures ends { ElectEndsAsReplay }

@@ -44,8 +44,8 @@ pub(crate) fn answer_interleave(alloc: Global, parts: Parts) -> Result<Answer, N
     answer_report(alloc, version, report, vars)
 }
 
-/// Makes one step of each caller of the schedule in turn, and then rounds of one step for each caller in rising number, until all
-/// have ended.
+/// Makes one step of each caller of the schedule in turn,
+/// and then rounds of one step for each caller in rising number, until all have ended.
 ///
 /// All memory is taken before the first step.
 pub fn run_interleaved<D: Decider>(
@@ -57,7 +57,8 @@ pub fn run_interleaved<D: Decider>(
 ) -> Result<Report, NoMemory>
     requires bots { HaveBots (length world.bots) lists.now }
     requires callers { All (λ caller. caller < length lists.now.ids) schedule.now }
-    ensures { IfOk result (λ report. IsInterleaveReport (D.verdict decider.now) world lists.now schedule.now report) }
+    ensures { IfOk result (λ report.
+        IsInterleaveReport (D.verdict decider.now) world lists.now schedule.now report) }
 {
     world.keeps();
     let mut core = Core::make(alloc, decider, world, lists)?;
@@ -70,7 +71,8 @@ pub fn run_interleaved<D: Decider>(
 fn step_all<D: Decider>(core: &mut Core<'_, D>, schedule: &Schedule)
     requires callers { All (λ caller. caller < length core.old.state.callers) schedule.now }
     requires opening { core.old ≡ opening_core D.verdict core.old.decider core.old.first core.old.lists }
-    ensures { core.new ≡ record core.old { state = after (setup_of D.verdict core.old) (reverse schedule.now) } }
+    ensures { core.new
+        ≡ record core.old { state = after (setup_of D.verdict core.old) (reverse schedule.now) } }
 {
     for number in 0..schedule.steps() {
         core.step(schedule.step(number));

@@ -28,7 +28,8 @@ use shape_checks::{hexagon_laws, measures_are_decided};
 use shape_files::{documents_are_sound, documents_fit, least_versions_are_kept};
 
 /// For a command and what the input came to, at most one status is owed.
-/// At most one report is owed, except for `run` and `tickets` of two lists or more and for `sample`.
+/// At most one report is owed, except for `run` and `tickets` of two
+/// lists or more and for `sample`.
 /// At most one text is owed, except for `run` and `tickets` of two lists or more.
 pub fn owed_is_one()
     ensures { OwedIsOne }
@@ -95,15 +96,17 @@ pub fn prepared_is_one()
     sample_text_is_one();
 }
 
-/// What is owed for a document of the command is an outcome of it. It is done; or the journal differs; or `rewind` or `elect` refuses it.
+/// What is owed for a document of the command is an outcome of it.
+/// It is done; or the journal differs; or `rewind` or `elect` refuses it.
 pub fn documents_have_outcomes()
     ensures { DocumentsHaveOutcomes }
 {
     least_versions_are_kept();
 }
 
-/// A report is owed exactly where `run`, `interleave`, `tickets` or `sample` is done. Then it is a good one of the turns of a document's
-/// lists under its program, from its shape on, or of those of a sample: the headline.
+/// A report is owed exactly where `run`, `interleave`, `tickets` or `sample` is done.
+/// Then it is a good one of the turns of a document's lists under its program, from its shape on,
+/// or of those of a sample: the headline.
 pub fn reports_are_of_runs()
     ensures exactly { ReportsAreOfTurns }
     ensures document { ReportsAreOfDocuments }
@@ -130,24 +133,28 @@ pub fn small_explanations()
     reached_is_good();
 }
 
-/// For `elect` of the program `erosion`, calls and what they owe. Also a start that is ready, and a world that is elected.
+/// For `elect` of the program `erosion`, calls and what they owe.
+/// Also a start that is ready, and a world that is elected.
 pub fn small_elections()
     ensures { SmallElections }
 {}
 
-/// A good report's journal has at most one entry for each turn, and each is of an amoebot that is there.
+/// A good report's journal has at most one entry for each turn,
+/// and each is of an amoebot that is there.
 pub fn good_is_few()
     ensures { GoodIsFew }
 {}
 
-/// With the guard on and a connected shape at the start, the shape is connected in each world of a good report's run.
+/// With the guard on and a connected shape at the start,
+/// the shape is connected in each world of a good report's run.
 pub fn good_stays_connected()
     ensures { GoodStaysConnected }
 {
     program_runs_stay_connected();
 }
 
-/// Reports of the commands on a small shape, of one list and of two, journals that agree and differ, and texts of measures and of a sample.
+/// Reports of the commands on a small shape, of one list and of two,
+/// journals that agree and differ, and texts of measures and of a sample.
 pub fn small_commands()
     ensures { SmallCommands }
 {

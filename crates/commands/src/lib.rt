@@ -1,4 +1,5 @@
-//! The commands: the words that ask for them, what each does with what was read, what it writes, and what a call owes.
+//! The commands: the words that ask for them, what each does with what was read, what it writes,
+//! and what a call owes.
 //! None of them reads or writes a byte.
 #![tactic(auto)]
 

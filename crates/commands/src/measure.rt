@@ -53,7 +53,8 @@ fn last_shape(world: Option<World>, final_world: Option<World>) -> World
     }
 }
 
-/// How many amoebots the shape has, whether it is connected, and whether it is a hexagon: a line for each.
+/// How many amoebots the shape has, whether it is connected, and whether it is a hexagon:
+/// a line for each.
 pub fn print_measures(alloc: Global, world: &World) -> Result<Text, NoMemory>
     ensures { IfOk result (IsMeasureText world.now) }
 {

@@ -42,7 +42,8 @@ pub(crate) struct Recorded {
     pub journal: Journal,
 }
 
-/// What a document has that a command with a journal looks at. The amoebots of the entries are the start's.
+/// What a document has that a command with a journal looks at.
+/// The amoebots of the entries are the start's.
 pub(crate) fn recorded_in(parts: Parts) -> Recorded
     requires { Fits (form_of DocumentCommand.Replay) (contents parts) }
     ensures { IsRecordOf (contents parts) result }

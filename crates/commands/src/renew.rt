@@ -53,7 +53,8 @@ pub(crate) fn answer_renew(alloc: Global, parts: Parts) -> Result<Answer, NoMemo
     }
 }
 
-/// The answer to entries with their old values, whose amoebots are the start's. They are written as they were read.
+/// The answer to entries with their old values, whose amoebots are the start's.
+/// They are written as they were read.
 fn renew_full(
     alloc: Global,
     runner: &Runner,
@@ -63,7 +64,8 @@ fn renew_full(
 ) -> Result<Answer, NoMemory>
     requires there { All (λ e. e.bot < length start.now.bots) entries.now }
     requires few { AreCountable entries.now }
-    ensures { IfOk result (IsAnswerOf (EntriesOutcome full_entry (verdict_shown runner.now) start.now entries.now last.now
+    ensures { IfOk result (
+        IsAnswerOf (EntriesOutcome full_entry (verdict_shown runner.now) start.now entries.now last.now
         (λ es text. text ≡ renewed_text runner.now start.now es last.now))) }
 {
     let taken = start.copy(alloc)?;
@@ -83,7 +85,8 @@ fn renew_plain(
 ) -> Result<Answer, NoMemory>
     requires there { All (λ p. p.bot < length start.now.bots) entries.now }
     requires few { AreCountable entries.now }
-    ensures { IfOk result (IsAnswerOf (EntriesOutcome plain_entry (verdict_shown runner.now) start.now entries.now last.now
+    ensures { IfOk result (
+        IsAnswerOf (EntriesOutcome plain_entry (verdict_shown runner.now) start.now entries.now last.now
         (λ es text. text ≡ renewed_text runner.now start.now es last.now))) }
 {
     let taken = start.copy(alloc)?;
@@ -93,7 +96,8 @@ fn renew_plain(
     }
 }
 
-/// The answer that is a document of a run: the program, the shape at the start, the entries with their old values, and the last shape.
+/// The answer that is a document of a run: the program, the shape at the start,
+/// the entries with their old values, and the last shape.
 fn renew(
     alloc: Global,
     runner: &Runner,
@@ -101,13 +105,15 @@ fn renew(
     entries: &[Entry],
     last: &World,
 ) -> Result<Answer, NoMemory>
-    ensures { IfOk result (λ a. a ≡ with_text Status.Done (renewed_text runner.now start.now entries.now last.now)) }
+    ensures { IfOk result (λ a.
+        a ≡ with_text Status.Done (renewed_text runner.now start.now entries.now last.now)) }
 {
     let text = print_renewed(alloc, runner.checked().program(), start, entries, last)?;
     Ok(done(text))
 }
 
-/// The entries of the run from the start to the last world that these tell in a form, whose amoebots are the world's.
+/// The entries of the run from the start to the last world that these tell in a form,
+/// whose amoebots are the world's.
 /// If there is none, it differs where `compare` says so.
 pub fn follow_all<D: Decider, E: EntryForm>(
     alloc: Global,
@@ -143,7 +149,8 @@ pub fn follow_all<D: Decider, E: EntryForm>(
     }
 }
 
-/// A document of version 3: the program, which has at most 8 variables, the shape, the entries with their old values, and the last shape.
+/// A document of version 3: the program, which has at most 8 variables, the shape,
+/// the entries with their old values, and the last shape.
 pub fn print_renewed(
     alloc: Global,
     program: &Program,
@@ -164,8 +171,10 @@ pub fn print_renewed(
     Ok(lines.text())
 }
 
-/// What `renew` writes is a document of `replay` in version 3, with what its document has and the entries that the journal tells.
-/// `replay` agrees on it, and to renew it again gives the same text. That is said of texts within the limit of `replay`.
+/// What `renew` writes is a document of `replay` in version 3,
+/// with what its document has and the entries that the journal tells.
+/// `replay` agrees on it, and to renew it again gives the same text.
+/// That is said of texts within the limit of `replay`.
 /// `renew` is done exactly where `replay` is done, and ends as `replay` with each other status.
 pub fn renewed_is_replayed()
     ensures replayed { RenewedIsReplayed }

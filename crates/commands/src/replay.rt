@@ -31,7 +31,8 @@ use shape_files::{Parts, documents_are_sound, documents_fit, runs_are_replayed};
 use std::alloc::Global;
 use text_tokens::{Lines, Text};
 
-/// The journal is compared with a run from the shape to the final shape, by what it has of each entry.
+/// The journal is compared with a run from the shape to the final shape,
+/// by what it has of each entry.
 pub(crate) fn answer_replay(alloc: Global, parts: Parts) -> Result<Answer, NoMemory>
     requires { Fits (form_of DocumentCommand.Replay) (contents parts) }
     ensures { IfOk result (IsAnswerOf (ReplayOutcome (contents parts))) }
@@ -58,7 +59,8 @@ fn tell_run<E: EntryForm>(
 ) -> Result<Answer, NoMemory>
     requires there { All (λ e. E.bot e < length start.bots) entries.now }
     requires few { AreCountable entries.now }
-    ensures { IfOk result (IsAnswerOf (EntriesOutcome E.form (verdict_shown runner.now) start entries.now last.now
+    ensures { IfOk result (
+        IsAnswerOf (EntriesOutcome E.form (verdict_shown runner.now) start entries.now last.now
         (λ es text. text ≡ agrees_line (length es)))) }
 {
     match compare(runner, start, entries, last) {
@@ -67,8 +69,11 @@ fn tell_run<E: EntryForm>(
     }
 }
 
-/// Whether the entries in a form, whose amoebots are the world's, are those of a run of the model from the start to the last world.
-/// If not, the first place that is no step; or the number of entries, where they lead to another world. It takes no memory.
+/// Whether the entries in a form, whose amoebots are the world's,
+/// are those of a run of the model from the start to the last world.
+/// If not, the first place that is no step; or the number of entries,
+/// where they lead to another world.
+/// It takes no memory.
 pub fn compare<D: Decider, E: EntryForm>(
     decider: &D,
     start: World,
@@ -78,7 +83,8 @@ pub fn compare<D: Decider, E: EntryForm>(
     requires there { All (λ e. E.bot e < length start.bots) entries.now }
     requires few { AreCountable entries.now }
     ensures agrees { OnOk result (AgreesIn E.form (D.verdict decider.now) start entries.now last.now) }
-    ensures differs { IfErr result (λ e. DiffersAt E.form (D.verdict decider.now) start entries.now last.now e.place) }
+    ensures differs { IfErr result (λ e.
+        DiffersAt E.form (D.verdict decider.now) start entries.now last.now e.place) }
 {
     let reached = replay_in(decider, start, entries)?;
     if reached.same(last) {
@@ -108,7 +114,8 @@ pub fn print_differs(alloc: Global, place: u32) -> Result<Text, NoMemory>
     Ok(lines.text())
 }
 
-/// A journal that agrees differs nowhere, and one that differs does so at one place. From a valid shape each journal does one of both.
+/// A journal that agrees differs nowhere, and one that differs does so at one place.
+/// From a valid shape each journal does one of both.
 pub fn replay_is_decided<E: EntryForm>()
     ensures { ReplayIsDecided E.form }
 {
@@ -118,8 +125,9 @@ pub fn replay_is_decided<E: EntryForm>()
     plain_run_is_unique();
 }
 
-/// A document of `run`, `tickets` or `interleave` whose last byte is a line feed, followed by the text of a report of its run, is one of
-/// `replay`, with the report's entries and its last world; and `replay` agrees.
+/// A document of `run`, `tickets` or `interleave` whose last byte is a line feed,
+/// followed by the text of a report of its run, is one of `replay`,
+/// with the report's entries and its last world; and `replay` agrees.
 pub fn run_texts_are_replayed()
     ensures run { RunTextsAreReplayed }
     ensures tickets { TicketTextsAreReplayed }

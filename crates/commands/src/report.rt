@@ -20,8 +20,8 @@ use shape_text::put_shape;
 use std::alloc::{AllocError, Global};
 use text_tokens::{Lines, Text};
 
-/// The text of a run as a document of the version has it: the sections `journal`, `final` and `turns`, where an amoebot has the values
-/// of so many variables, at most 8.
+/// The text of a run as a document of the version has it: the sections `journal`,
+/// `final` and `turns`, where an amoebot has the values of so many variables, at most 8.
 pub fn print_report(alloc: Global, version: u8, report: &Report, vars: u8) -> Result<Text, NoMemory>
     requires { vars ≤ most_vars }
     ensures { IfOk result (λ text. text ≡ report_text version vars report.now) }
@@ -82,7 +82,8 @@ fn tell_report(
     answer_report(alloc, version, report, checked.vars())
 }
 
-/// The answer that tells a report in a version, where an amoebot has the values of so many variables.
+/// The answer that tells a report in a version, where an amoebot has
+/// the values of so many variables.
 pub(crate) fn answer_report(
     alloc: Global,
     version: u8,

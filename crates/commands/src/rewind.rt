@@ -24,8 +24,8 @@ use shape_text::print_shape;
 use std::alloc::Global;
 use text_tokens::{Refusal, RefusalKind};
 
-/// The shape at the place, to which the entries behind it are gone back over. Of the first shape the area, the walls and the number
-/// of amoebots count alone.
+/// The shape at the place, to which the entries behind it are gone back over.
+/// Of the first shape the area, the walls and the number of amoebots count alone.
 pub(crate) fn answer_rewind(alloc: Global, place: u32, parts: Parts) -> Result<Answer, NoMemory>
     requires fits { Fits (form_of (DocumentCommand.Rewind place)) (contents parts) }
     requires least { least_for (DocumentCommand.Rewind place) ≤ (contents parts).version }
@@ -60,7 +60,8 @@ fn bad_place() -> Refusal
 
 /// The answer that is the section of a shape.
 fn show_shape(alloc: Global, runner: &Runner, shape: &World) -> Result<Answer, NoMemory>
-    ensures { IfOk result (λ a. a ≡ with_text Status.Done (shape_text (codes "shape") (length runner.now.vars) shape.now)) }
+    ensures { IfOk result (λ a.
+        a ≡ with_text Status.Done (shape_text (codes "shape") (length runner.now.vars) shape.now)) }
 {
     let checked = runner.checked();
     checked.program();
@@ -68,7 +69,8 @@ fn show_shape(alloc: Global, runner: &Runner, shape: &World) -> Result<Answer, N
     Ok(done(text))
 }
 
-/// Where the journal of a document is a run from its shape to its final shape, `rewind` owes the shape that the run has at the place.
+/// Where the journal of a document is a run from its shape to its final shape,
+/// `rewind` owes the shape that the run has at the place.
 pub fn rewind_undoes_replay()
     ensures { RewindUndoesReplay }
 {

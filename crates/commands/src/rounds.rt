@@ -52,7 +52,8 @@ fn tell_count<E: EntryForm>(
 ) -> Result<Answer, NoMemory>
     requires there { All (λ e. E.bot e < length start.bots) entries.now }
     requires few { AreCountable entries.now }
-    ensures { IfOk result (IsAnswerOf (EntriesOutcome E.form (verdict_shown runner.now) start entries.now last.now
+    ensures { IfOk result (
+        IsAnswerOf (EntriesOutcome E.form (verdict_shown runner.now) start entries.now last.now
         (IsRoundsText (verdict_shown runner.now) start))) }
 {
     match count_rounds(alloc, runner, start, entries, last)? {
@@ -73,8 +74,9 @@ pub struct RoundCount {
     pub waiting: u32,
 }
 
-/// The rounds of the entries in a form, whose amoebots are the world's, if they are those of a run of the model from the start to the
-/// last world. If they are none, they differ where `compare` says so.
+/// The rounds of the entries in a form, whose amoebots are the world's,
+/// if they are those of a run of the model from the start to the last world.
+/// If they are none, they differ where `compare` says so.
 pub fn count_rounds<D: Decider, E: EntryForm>(
     alloc: Global,
     decider: &D,
@@ -108,7 +110,8 @@ pub fn count_rounds<D: Decider, E: EntryForm>(
     }
 }
 
-/// How many rounds of a run have ended, and how many amoebots are not settled in the last one that was started: a line for each.
+/// How many rounds of a run have ended, and how many amoebots are not settled in the last one
+/// that was started: a line for each.
 pub fn print_rounds(alloc: Global, rounds: u32, waiting: u32) -> Result<Text, NoMemory>
     ensures { IfOk result (λ text. text ≡ rounds_text rounds waiting) }
 {
@@ -118,7 +121,8 @@ pub fn print_rounds(alloc: Global, rounds: u32, waiting: u32) -> Result<Text, No
     Ok(lines.text())
 }
 
-/// The rounds of a run are told in one way, and entries from a valid shape without gaps that agree have rounds that are told.
+/// The rounds of a run are told in one way, and entries from a valid shape without gaps that agree
+/// have rounds that are told.
 pub fn rounds_are_decided<E: EntryForm>()
     ensures { RoundsAreDecided E.form }
 {

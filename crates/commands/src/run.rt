@@ -13,7 +13,8 @@ use action_eval::Runner;
 use claim_core::{one_list_is_serial, serial_run_is_determined};
 use shape_files::Parts;
 
-/// The run of a document's lists is prepared; it gets the text of its report in the document's version.
+/// The run of a document's lists is prepared; it gets the text
+/// of its report in the document's version.
 pub(crate) fn prepare(parts: Parts) -> Prepared
     requires { Fits (form_of DocumentCommand.Run) (contents parts) }
     ensures { IsTaskTo DocumentCommand.Run (contents parts) (Task.Run result) }

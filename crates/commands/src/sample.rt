@@ -62,8 +62,9 @@ pub(crate) fn tell_sample(
     })
 }
 
-/// The text of a report of the lists' turns, under the number from which they were made: how many amoebots, callers and turns
-/// there are, whether the last world is connected, and whether the journal, replayed from the first world, leads to the last one.
+/// The text of a report of the lists' turns, under the number from which they were made:
+/// how many amoebots, callers and turns there are, whether the last world is connected,
+/// and whether the journal, replayed from the first world, leads to the last one.
 pub fn print_sample<D: Decider>(
     alloc: Global,
     seed: u32,
@@ -73,7 +74,8 @@ pub fn print_sample<D: Decider>(
 ) -> Result<Text, NoMemory>
     requires there { All (λ e. e.bot < length report.now.journal.first.bots) report.now.journal.entries }
     requires few { AreCountable report.now.journal.entries }
-    ensures { IfOk result (IsSampleText (D.verdict decider.now) report.now.journal.first lists.now seed report.now) }
+    ensures { IfOk result (
+        IsSampleText (D.verdict decider.now) report.now.journal.first lists.now seed report.now) }
 {
     let callers = lists.callers();
     let connected = is_connected(alloc, &report.world)?;
@@ -96,7 +98,8 @@ fn agrees<D: Decider>(alloc: Global, decider: &D, report: &Report) -> Result<boo
     requires there { All (λ e. e.bot < length report.now.journal.first.bots) report.now.journal.entries }
     requires few { AreCountable report.now.journal.entries }
     ensures { IfOk result (λ agrees. Decides agrees
-        (Agrees (D.verdict decider.now) report.now.journal.first report.now.journal.entries report.now.world)) }
+        (Agrees (D.verdict decider.now) report.now.journal.first
+        report.now.journal.entries report.now.world)) }
 {
     replay_is_decided::<Entry>();
     let first = report.journal.first().copy(alloc)?;
@@ -120,7 +123,8 @@ struct Told {
 /// A line for each.
 fn print_told(alloc: Global, told: &Told) -> Result<Text, NoMemory>
     ensures { IfOk result (λ text. text
-        ≡ sample_text told.now.seed told.now.bots told.now.callers told.now.turns told.now.connected told.now.agrees) }
+        ≡ sample_text told.now.seed told.now.bots told.now.callers
+        told.now.turns told.now.connected told.now.agrees) }
 {
     let mut lines = Lines::new(alloc);
     put_number(&mut lines, "sample", told.seed)?;

@@ -1,4 +1,5 @@
-//! The command `tickets`: workers are to run the lists of a document, and no commit waits for another.
+//! The command `tickets`: workers are to run the lists of a document,
+//! and no commit waits for another.
 
 ghost use Rattle.shape_files.specs.Fitting.{Fits};
 ghost use Rattle.shape_files.specs.Views.{contents};

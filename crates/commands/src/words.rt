@@ -42,7 +42,8 @@ pub enum DocumentCommand {
     Measure,
     /// Writes its journal anew, with the old values of each cell.
     Renew,
-    /// Goes back from its final shape to this place of its journal, counted from 0, and writes the shape there.
+    /// Goes back from its final shape to this place of its journal, counted from 0,
+    /// and writes the shape there.
     Rewind(u32),
     /// Counts the rounds of its journal.
     Rounds,
@@ -55,12 +56,15 @@ pub enum DocumentCommand {
 /// The most digits of a number.
 const MOST_DIGITS: usize = 10;
 
-/// The command that the words are, if they are one: the word of a command that reads a document; `show` and the name of a program;
-/// or `sample` or `rewind` and a number, 1 to 10 digits that write a number below 2^32. `NoMemory` may come in place of it, except
-/// where a word begins with `-`: such words are no command, and that takes no memory.
+/// The command that the words are, if they are one: the word of a command that reads a document;
+/// `show` and the name of a program; or `sample` or `rewind` and a number,
+/// 1 to 10 digits that write a number below 2^32.
+/// `NoMemory` may come in place of it, except where a word begins with `-`:
+/// such words are no command, and that takes no memory.
 pub fn command_of(alloc: Global, words: &[String]) -> Result<Option<Command>, NoMemory>
     ensures command { IfOk result (λ c. c ≡ command_of (map string_bytes words.now)) }
-    ensures dash { list_any (λ word. begins_with_dash (string_bytes word)) words.now ≡ true → result ≡ Ok None }
+    ensures dash { list_any (λ word. begins_with_dash (string_bytes word)) words.now ≡ true
+        → result ≡ Ok None }
 {
     if any_begins_with_dash(words) {
         return Ok(None);
@@ -116,13 +120,15 @@ fn of_subcommand(word: &str, arguments: &ArgMatches<'_>) -> Option<Command>
 }
 
 fn of_name_in(arguments: &ArgMatches<'_>) -> Option<Command>
-    ensures { result ≡ option_and_then (show_in shipped) (first_of (codes "NAME") (rows_of (found_of arguments.now))) }
+    ensures { result ≡ option_and_then (show_in shipped)
+        (first_of (codes "NAME") (rows_of (found_of arguments.now))) }
 {
     of_name(arguments.get_str("NAME")?)
 }
 
 fn number_in(arguments: &ArgMatches<'_>) -> Option<u32>
-    ensures { result ≡ option_and_then number_of (first_of (codes "NUMBER") (rows_of (found_of arguments.now))) }
+    ensures { result ≡ option_and_then number_of
+        (first_of (codes "NUMBER") (rows_of (found_of arguments.now))) }
 {
     number_of(arguments.get_str("NUMBER")?)
 }

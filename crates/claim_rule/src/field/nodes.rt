@@ -21,7 +21,8 @@ impl<'d, D: Decider, W: Manner> Field<'d, D, W> {
         requires may { MayStep self.now seat.old }
         requires next { IsToTryNode D.verdict cell seat.old.me.0 }
         ensures same { IsSameSeat seat.old seat.new }
-        ensures told { LooksAt D.verdict (step self.now.table.slots cell 0 0 none) seat.old.me result seat.new.me }
+        ensures told { LooksAt D.verdict
+            (step self.now.table.slots cell 0 0 none) seat.old.me result seat.new.me }
     {
         self.table.shared.load::<Look>(seat, cell)
     }
@@ -38,7 +39,8 @@ impl<'d, D: Decider, W: Manner> Field<'d, D, W> {
         requires may { MayStep self.now seat.old }
         requires next { IsToWin D.verdict cell noted tagged seat.old.me.0 }
         ensures same { IsSameSeat seat.old seat.new }
-        ensures told { TriesNode D.verdict (step self.now.table.slots cell noted tagged none) seat.old.me result seat.new.me }
+        ensures told { TriesNode D.verdict
+            (step self.now.table.slots cell noted tagged none) seat.old.me result seat.new.me }
     {
         self.table
             .shared
@@ -51,15 +53,17 @@ impl<'d, D: Decider, W: Manner> Field<'d, D, W> {
         requires may { MayStep self.now seat.old }
         requires last { IsToFreeNode D.verdict cell word seat.old.me.0 }
         ensures same { IsSameSeat seat.old seat.new }
-        ensures told { ReleasesNode D.verdict (step self.now.table.slots cell word 0 none) seat.old.me word seat.new.me }
+        ensures told { ReleasesNode D.verdict
+            (step self.now.table.slots cell word 0 none) seat.old.me word seat.new.me }
     {
         self.table.shared.store::<FreeNode>(seat, cell, word)
     }
 }
 
 impl<'d, D: Decider> Field<'d, D> {
-    /// The word of a node as it is at some moment; None outside of the area. It has the tag, the occupant and the stamp. Nothing is
-    /// promised of it: it serves tests.
+    /// The word of a node as it is at some moment; None outside of the area.
+    /// It has the tag, the occupant and the stamp.
+    /// Nothing is promised of it: it serves tests.
     pub fn peek_node(&self, node: Node) -> Option<u64> {
         let number = self.world.area().index(node)?;
         Some(self.table.shared.peek(number as usize))

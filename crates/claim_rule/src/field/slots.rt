@@ -1,4 +1,5 @@
-//! What a caller does with the slots that it has taken. The values stay in them: they are read and written in place.
+//! What a caller does with the slots that it has taken.
+//! The values stay in them: they are read and written in place.
 ghost use Rattle.std.specs.Prelude.{◌≡◌, ◌∷◌, false, length};
 ghost use Rattle.amoebot_state.specs.declared.cell.Cell.{Cell};
 ghost use Rattle.atomic_table.specs.Table.{rest};
@@ -29,7 +30,8 @@ impl<'d, D: Decider, W: Manner> Field<'d, D, W> {
         }
     }
 
-    /// Puts a value into the slot of the plain cell that was won last. It is written only where the slot is stale: else it is there.
+    /// Puts a value into the slot of the plain cell that was won last.
+    /// It is written only where the slot is stale: else it is there.
     pub(crate) fn put_there(
         &self,
         seat: &mut Seat<Slot, View<D>>,
@@ -38,7 +40,8 @@ impl<'d, D: Decider, W: Manner> Field<'d, D, W> {
         stale: bool,
     )
         requires table { seat.old.table_id ≡ self.now.table }
-        requires won { (x : Cell) × (seat.old.me.1 ≡ (slot, filling.Cell x) ∷ rest seat.old.me.1) × (stale ≡ false → x ≡ value.now) }
+        requires won { (x : Cell) × (seat.old.me.1 ≡ (slot, filling.Cell x) ∷ rest seat.old.me.1)
+            × (stale ≡ false → x ≡ value.now) }
         ensures same { IsSameSeat seat.old seat.new }
         ensures there { seat.new.me ≡ (seat.old.me.0, (slot, filling.Cell value.now) ∷ rest seat.old.me.1) }
     {
@@ -52,7 +55,8 @@ impl<'d, D: Decider, W: Manner> Field<'d, D, W> {
 }
 
 impl<'d, D: Decider> Field<'d, D> {
-    /// Pushes an entry to the journal, whose slot was taken last. It returns the number of entries before it.
+    /// Pushes an entry to the journal, whose slot was taken last.
+    /// It returns the number of entries before it.
     pub(crate) fn push_entry(&self, seat: &mut Seat<Slot, View<D>>, entry: Entry) -> u32
         requires table { seat.old.table_id ≡ self.now.table }
         requires taken { (j : Kept) × HasRoomForEntry j
@@ -60,7 +64,8 @@ impl<'d, D: Decider> Field<'d, D> {
         ensures same { IsSameSeat seat.old seat.new }
         ensures pushed { (j : Kept) × (next : Kept)
             × (seat.old.me.1 ≡ (journal_slot self.now.terms.world, filling.Journal j) ∷ rest seat.old.me.1)
-            × (seat.new.me ≡ (seat.old.me.0, (journal_slot self.now.terms.world, filling.Journal next) ∷ rest seat.old.me.1))
+            × (seat.new.me
+            ≡ (seat.old.me.0, (journal_slot self.now.terms.world, filling.Journal next) ∷ rest seat.old.me.1))
             × IsPushed j entry next × (result ≡ length j.entries) }
     {
         let slot = self.journal_slot();

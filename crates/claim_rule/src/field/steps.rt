@@ -19,12 +19,14 @@ use atomic_table::Seat;
 use claim_core::cells_of;
 
 impl<'d, D: Decider, W: Manner> Field<'d, D, W> {
-    /// One try to claim the plain cell with this number. It returns the tag that was found, 0 where the cell is won.
+    /// One try to claim the plain cell with this number.
+    /// It returns the tag that was found, 0 where the cell is won.
     pub(crate) fn claim(&self, seat: &mut Seat<Slot, View<D>>, cell: usize, tag: u64) -> u64
         requires may { MayStep self.now seat.old }
         requires next { IsToTry D.verdict W.way cell tag seat.old.me.0 }
         ensures same { IsSameSeat seat.old seat.new }
-        ensures told { Claims D.verdict W.way (step self.now.table.slots cell 0 tag none) seat.old.me result seat.new.me }
+        ensures told { Claims D.verdict W.way
+            (step self.now.table.slots cell 0 tag none) seat.old.me result seat.new.me }
     {
         self.table
             .shared
@@ -36,7 +38,8 @@ impl<'d, D: Decider, W: Manner> Field<'d, D, W> {
         requires may { MayStep self.now seat.old }
         requires last { IsToFree D.verdict W.way cell seat.old.me }
         ensures same { IsSameSeat seat.old seat.new }
-        ensures told { Releases D.verdict (step self.now.table.slots cell 0 0 none) seat.old.me 0 seat.new.me }
+        ensures told { Releases D.verdict
+            (step self.now.table.slots cell 0 0 none) seat.old.me 0 seat.new.me }
     {
         self.table.shared.store::<Free>(seat, cell, 0)
     }
@@ -46,7 +49,8 @@ impl<'d, D: Decider, W: Manner> Field<'d, D, W> {
         requires may { MayStep self.now seat.old }
         requires reads { IsToRead (own seat.old.me.0).caller.phase }
         ensures same { IsSameSeat seat.old seat.new }
-        ensures told { ReadsLength D.verdict W.way (step self.now.table.slots (cells self.now.terms.world) 0 0 none)
+        ensures told { ReadsLength D.verdict W.way
+            (step self.now.table.slots (cells self.now.terms.world) 0 0 none)
             seat.old.me result seat.new.me }
     {
         let journal = self.journal_number();
@@ -76,18 +80,21 @@ impl<'d, D: Decider, W: Manner> Field<'d, D, W> {
 }
 
 impl<'d, D: Decider> Field<'d, D> {
-    /// One try to take the journal. It returns the journal's word as it was found, which is odd where another caller has it.
+    /// One try to take the journal.
+    /// It returns the journal's word as it was found, which is odd where another caller has it.
     pub(crate) fn take_journal(&self, seat: &mut Seat<Slot, View<D>>) -> u64
         requires may { MayStep self.now seat.old }
         requires takes { Takes (own seat.old.me.0).caller.phase }
         ensures same { IsSameSeat seat.old seat.new }
-        ensures told { took D.verdict (step self.now.table.slots (cells self.now.terms.world) 1 0 none) seat.old.me result seat.new.me }
+        ensures told { took D.verdict
+            (step self.now.table.slots (cells self.now.terms.world) 1 0 none) seat.old.me result seat.new.me }
     {
         let journal = self.journal_number();
         self.table.shared.fetch_or::<Take>(seat, journal, 1)
     }
 
-    /// Whether another caller had the journal at some moment. It is no step, and nothing is promised of it.
+    /// Whether another caller had the journal at some moment.
+    /// It is no step, and nothing is promised of it.
     pub fn is_journal_taken(&self) -> bool {
         let journal = self.journal_number();
         self.table.shared.peek(journal) % 2 != 0
@@ -99,7 +106,8 @@ impl<'d, D: Decider> Field<'d, D> {
         requires few { length ≤ most_turns }
         requires commits { IsToCommit D.verdict (journal_slot self.now.terms.world) (2 * length) seat.old.me }
         ensures same { IsSameSeat seat.old seat.new }
-        ensures told { stored D.verdict (step self.now.table.slots (cells self.now.terms.world) (2 * length) 0 none)
+        ensures told { stored D.verdict
+            (step self.now.table.slots (cells self.now.terms.world) (2 * length) 0 none)
             seat.old.me (2 * length) seat.new.me }
     {
         let journal = self.journal_number();
@@ -120,7 +128,8 @@ impl<'d, D: Decider> Field<'d, D, ByTicket> {
         requires may { MayStep self.now seat.old }
         requires takes { Takes (own seat.old.me.0).caller.phase }
         ensures same { IsSameSeat seat.old seat.new }
-        ensures told { drew D.verdict (step self.now.table.slots (cells self.now.terms.world) 1 0 none) seat.old.me result seat.new.me }
+        ensures told { drew D.verdict
+            (step self.now.table.slots (cells self.now.terms.world) 1 0 none) seat.old.me result seat.new.me }
     {
         let last = self.journal_number();
         self.table.shared.fetch_add::<Draw>(seat, last, 1)
