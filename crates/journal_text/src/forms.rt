@@ -6,7 +6,7 @@ ghost use Rattle.amoebot_state.specs.Limits.{most_pairs};
 ghost use Rattle.amoebot_state.specs.Pairs.{is_alike};
 ghost use Rattle.journal_text.specs.Journals.{WrittenEntry, entry_by, entry_with, plain_by, with_changes};
 
-use amoebot_state::{Cell, CellName, Entry, Moved, Patch, PlainEntry, PlainPatch};
+use amoebot_state::{Cell, CellName, Entry, Moved, Patch, PlainEntry};
 
 /// What is made of an entry as it is written.
 pub(crate) trait Form: Drop + Sized {
@@ -30,8 +30,6 @@ pub(crate) trait Form: Drop + Sized {
 }
 
 impl Form for Entry {
-    const HAS_OLD: bool = true;
-
     ghost HAS_OLD = { true };
 
     ghost made = { entry_by };
@@ -52,29 +50,24 @@ impl Form for Entry {
     fn put(&mut self, name: CellName, before: Option<Cell>, value: Cell) {
         self.patch.push(name, before.unwrap_or(value), value);
     }
+
+    const HAS_OLD: bool = true;
 }
 
 impl Form for PlainEntry {
-    const HAS_OLD: bool = false;
-
     ghost HAS_OLD = { false };
 
     ghost made = { plain_by };
 
     #[inline(always)]
     fn begin(caller: u8, turn: u32, bot: u16, action: u8, moved: Moved) -> PlainEntry {
-        PlainEntry {
-            caller,
-            turn,
-            bot,
-            action,
-            moved,
-            patch: PlainPatch::new(),
-        }
+        <Entry as Form>::begin(caller, turn, bot, action, moved).plain()
     }
 
     #[inline(always)]
     fn put(&mut self, name: CellName, _before: Option<Cell>, value: Cell) {
         self.patch.push(name, value);
     }
+
+    const HAS_OLD: bool = false;
 }

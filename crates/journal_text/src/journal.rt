@@ -30,48 +30,29 @@ const LAST_CALLER: u32 = 15;
 
 const LAST_TURN: u32 = 65_535;
 
-/// The entries of a journal with old values. They are seen as a list.
+/// The entries of a journal with old values.
+pub type Entries = EntriesIn<Entry>;
+
+/// The entries of a journal without old values.
+pub type PlainEntries = EntriesIn<PlainEntry>;
+
+/// The entries of a journal, in one of the two forms. They are seen as a list.
 #[derive(Drop)]
-pub struct Entries {
-    entries: Vec<Entry>,
+pub struct EntriesIn<E: Drop> {
+    entries: Vec<E>,
 }
 
-impl Model for Entries {
+impl<E: Drop> Model for EntriesIn<E> {
     ghost use Rattle.std.specs.Prelude.{List};
-    ghost use Rattle.amoebot_state.specs.declared.verdict.Entry.{Entry as EntryValue};
 
-    ghost Value = { List EntryValue };
+    ghost Value = { List E };
 
     ghost view = { λ e. e.entries.items };
 }
 
-impl Entries {
+impl<E: Drop> EntriesIn<E> {
     /// The entries in their order, at most 65,536.
-    pub fn entries(&self) -> &[Entry]
-        ensures { result.now ≡ self.now }
-    {
-        self.entries.as_slice()
-    }
-}
-
-/// The entries of a journal without old values. They are seen as a list.
-#[derive(Drop)]
-pub struct PlainEntries {
-    entries: Vec<PlainEntry>,
-}
-
-impl Model for PlainEntries {
-    ghost use Rattle.std.specs.Prelude.{List};
-    ghost use Rattle.amoebot_state.specs.declared.verdict.PlainEntry.{PlainEntry as EntryValue};
-
-    ghost Value = { List EntryValue };
-
-    ghost view = { λ e. e.entries.items };
-}
-
-impl PlainEntries {
-    /// The entries in their order, at most 65,536.
-    pub fn entries(&self) -> &[PlainEntry]
+    pub fn entries(&self) -> &[E]
         ensures { result.now ≡ self.now }
     {
         self.entries.as_slice()
@@ -529,9 +510,8 @@ pub fn read_journal(
     ensures tells { TellsOf (spec.IsJournal bots actions vars) (λ e. e) tokens.old result tokens.new }
     ensures reads { ReadsOf (spec.IsJournal bots actions vars) (λ e. e) tokens.old result tokens.new }
 {
-    Ok(Entries {
-        entries: read_section(alloc, tokens, bots, actions, vars)?,
-    })
+    let entries = read_section(alloc, tokens, bots, actions, vars)?;
+    Ok(EntriesIn { entries })
 }
 
 /// The same of a journal without old values.
@@ -546,7 +526,6 @@ pub fn read_plain(
     ensures tells { TellsOf (spec.IsPlainJournal bots actions vars) (λ e. e) tokens.old result tokens.new }
     ensures reads { ReadsOf (spec.IsPlainJournal bots actions vars) (λ e. e) tokens.old result tokens.new }
 {
-    Ok(PlainEntries {
-        entries: read_section(alloc, tokens, bots, actions, vars)?,
-    })
+    let entries = read_section(alloc, tokens, bots, actions, vars)?;
+    Ok(EntriesIn { entries })
 }

@@ -1,5 +1,5 @@
 -- What a meter keeps of a run, and when that is right: for each amoebot whether it is enabled, and in which round it was last settled.
-use Rattle.std.specs.Prelude.{◌≡◌, ℕ, ◌+◌, ◌<◌, ◌≤◌, List, [], ◌∷◌, ◌++◌, length, slice_index_or, Bool, false, not, ◌&&◌, nat_eq, Decides, IsSome}
+use Rattle.std.specs.Prelude.{◌≡◌, ℕ, ◌+◌, ◌<◌, ◌≤◌, List, [], ◌∷◌, ◌++◌, length, slice_index_or, Bool, false, not, ◌&&◌, nat_eq, Decides, IsSome, OnOk, IfErr}
 use Rattle.std.specs.List.{All, count_by}
 use Rattle.amoebot_state.specs.declared.verdict.Entry.{Entry}
 use Rattle.amoebot_state.specs.declared.verdict.Verdict.{Verdict}
@@ -7,6 +7,8 @@ use Rattle.amoebot_state.specs.Configs.{Config, IsValid, bot_at}
 use Rattle.amoebot_state.specs.Zones.{Shown}
 use Rattle.amoebot_state.specs.Steps.{Run, Step}
 use Rattle.serial_model.specs.Forms.{InForm}
+use Rattle.serial_model.specs.declared.replays.Differs.{Differs}
+use Rattle.std.specs.declared.result.Result.{Result}
 use Rattle.round_meter.specs.declared.standing.Standing.{Standing}
 use Rattle.round_meter.specs.Rounds.{IsSettled, AllSettled, RoundsTo, enabled_in}
 
@@ -84,6 +86,15 @@ pub record GoesOnWith (f : Shown → Verdict) (e : Entry) (old new : Metered) : 
 -- it goes on with an entry that is told in a form
 abbrev pub GoesOnIn : {E : Type 0} → (Entry → E) → (Shown → Verdict) → E → Metered → Metered → Type 0
 GoesOnIn form f told old new = InForm form (λ (e : Entry). GoesOnWith f e old new) told
+
+-- What a call leaves that feeds a meter: the meter goes on, or its world has no such step and it stays.
+pub record IsFed {A D : Type 0} (GoesOn : Metered → Metered → Type 0) (HasNoStep : Config → Type 0)
+    (old new : MeterOf D) (result : Result A Differs) : Type 0 where
+  pub goes_on : OnOk result (GoesOn old.state new.state)
+  pub fed : OnOk result (new.state.fed ≡ old.state.fed + 1)
+  pub size : length new.state.world.bots ≡ length old.state.world.bots
+  pub differs : IfErr result (λ (e : Differs). (e.place ≡ old.state.fed) × HasNoStep old.state.world × (new ≡ old))
+  pub decider : new.decider ≡ old.decider
 
 -- Two meters tell the same of a run and its rounds, and of each amoebot whether it is enabled, and whether it waits.
 -- All else that they keep is the round in which an amoebot was settled last that is not enabled, or that waits. No later round depends

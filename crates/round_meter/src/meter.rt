@@ -2,7 +2,7 @@ ghost use Rattle.std.specs.Prelude.{◌≡◌, ◌+◌, [], ◌<◌, ◌^◌, le
 ghost use Rattle.amoebot_state.specs.Steps.{plain_entry};
 ghost use Rattle.serial_model.specs.Forms.{full_entry};
 ghost use Rattle.serial_model.specs.Replays.{IsNoStep};
-ghost use Rattle.round_meter.specs.Meters.{GoesOnWith, GoesOnIn, IsMetered, StandsForRun, waiting_of};
+ghost use Rattle.round_meter.specs.Meters.{GoesOnWith, GoesOnIn, IsFed, IsMetered, StandsForRun, waiting_of};
 
 use crate::progress::Progress;
 use amoebot_state::{Decider, Entry, Found, NoMemory, PlainEntry, World};
@@ -57,13 +57,8 @@ impl<'d, D: Decider> Meter<'d, D> {
     pub fn feed(&mut self, entry: &Entry) -> Result<(), Differs>
         requires there { entry.now.bot < length self.old.state.world.bots }
         requires few { self.old.state.fed + 1 < 2 ^ 32 }
-        ensures goes_on { OnOk result (GoesOnWith (D.verdict self.old.decider) entry.now self.old.state self.new.state) }
-        ensures fed { OnOk result (self.new.state.fed ≡ self.old.state.fed + 1) }
-        ensures size { length self.new.state.world.bots ≡ length self.old.state.world.bots }
-        ensures differs { IfErr result (λ e. (e.place ≡ self.old.state.fed)
-            × IsNoStep full_entry (D.verdict self.old.decider) self.old.state.world entry.now
-            × (self.new ≡ self.old)) }
-        ensures decider { self.new.decider ≡ self.old.decider }
+        ensures { IsFed (GoesOnWith (D.verdict self.old.decider) entry.now)
+            (λ world. IsNoStep full_entry (D.verdict self.old.decider) world entry.now) self.old self.new result }
     {
         self.feed_in(entry)
     }
@@ -72,13 +67,8 @@ impl<'d, D: Decider> Meter<'d, D> {
     pub fn follow(&mut self, plain: &PlainEntry) -> Result<(), Differs>
         requires there { plain.now.bot < length self.old.state.world.bots }
         requires few { self.old.state.fed + 1 < 2 ^ 32 }
-        ensures goes_on { OnOk result (GoesOnIn plain_entry (D.verdict self.old.decider) plain.now self.old.state self.new.state) }
-        ensures fed { OnOk result (self.new.state.fed ≡ self.old.state.fed + 1) }
-        ensures size { length self.new.state.world.bots ≡ length self.old.state.world.bots }
-        ensures differs { IfErr result (λ e. (e.place ≡ self.old.state.fed)
-            × IsNoStep plain_entry (D.verdict self.old.decider) self.old.state.world plain.now
-            × (self.new ≡ self.old)) }
-        ensures decider { self.new.decider ≡ self.old.decider }
+        ensures { IsFed (GoesOnIn plain_entry (D.verdict self.old.decider) plain.now)
+            (λ world. IsNoStep plain_entry (D.verdict self.old.decider) world plain.now) self.old self.new result }
     {
         self.feed_in(plain)
     }

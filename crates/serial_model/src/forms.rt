@@ -6,8 +6,9 @@ ghost use Rattle.amoebot_state.specs.declared.verdict.Entry.{Entry};
 ghost use Rattle.amoebot_state.specs.Pairs.{plain_patch, plain_triple};
 ghost use Rattle.amoebot_state.specs.Steps.{entry_of, plain_entry};
 ghost use Rattle.serial_model.specs.Forms.{IsForm, full_entry};
+ghost use Rattle.serial_model.specs.FormLaws.{full_is_form, plain_is_form};
 
-use amoebot_state::{Cell, CellName, Change, Entry, Patch, PlainEntry, PlainPatch};
+use amoebot_state::{Cell, CellName, Change, Entry, Moved, Patch, PlainEntry, PlainPatch};
 
 /// What a journal has of an entry: all of it, or all but the old values of its patch.
 pub trait EntryForm: Sized {
@@ -20,13 +21,13 @@ pub trait EntryForm: Sized {
     /// The entry of a change, with the caller, the turn and the amoebot that are told.
     ghost entry: { Self → Change → Entry };
 
-    /// The amoebot whose entry it was.
-    fn bot(&self) -> u16
-        ensures { result ≡ bot self.now };
-
     /// Whether it tells this change.
     fn tells(&self, change: &Change) -> bool
         ensures { Decides result (form (entry self.now change.now) ≡ self.now) };
+
+    /// The amoebot whose entry it was.
+    fn bot(&self) -> u16
+        ensures { result ≡ bot self.now };
 
     /// The entry of a change, with the caller, the turn and the amoebot that are told.
     fn entry(&self, change: Change) -> Entry
@@ -37,22 +38,18 @@ pub trait EntryForm: Sized {
 }
 
 impl EntryForm for Entry {
-    ghost use Rattle.serial_model.specs.FormLaws.{full_is_form};
-
     ghost form = { full_entry };
 
     ghost bot = { λ e. e.bot };
 
     ghost entry = { λ e change. entry_of e.caller e.turn e.bot change };
 
-    fn bot(&self) -> u16 {
-        self.bot
+    fn tells(&self, change: &Change) -> bool {
+        does(self.action, self.moved, change) && self.patch.triples() == change.patch.triples()
     }
 
-    fn tells(&self, change: &Change) -> bool {
-        self.action == change.action
-            && self.moved == change.moved
-            && same_patch(&self.patch, &change.patch)
+    fn bot(&self) -> u16 {
+        self.bot
     }
 
     fn entry(&self, change: Change) -> Entry {
@@ -63,22 +60,18 @@ impl EntryForm for Entry {
 }
 
 impl EntryForm for PlainEntry {
-    ghost use Rattle.serial_model.specs.FormLaws.{plain_is_form};
-
     ghost form = { plain_entry };
 
     ghost bot = { λ p. p.bot };
 
     ghost entry = { λ p change. entry_of p.caller p.turn p.bot change };
 
-    fn bot(&self) -> u16 {
-        self.bot
+    fn tells(&self, change: &Change) -> bool {
+        does(self.action, self.moved, change) && same_plain(&self.patch, &change.patch)
     }
 
-    fn tells(&self, change: &Change) -> bool {
-        self.action == change.action
-            && self.moved == change.moved
-            && same_plain(&self.patch, &change.patch)
+    fn bot(&self) -> u16 {
+        self.bot
     }
 
     fn entry(&self, change: Change) -> Entry {
@@ -102,10 +95,12 @@ pub(crate) fn entry_by(caller: u8, turn: u32, bot: u16, change: Change) -> Entry
     }
 }
 
-fn same_patch(patch: &Patch, other: &Patch) -> bool
-    ensures { Decides result (patch.now ≡ other.now) }
+/// Whether this is the action of a change, and its movement.
+#[inline(always)]
+fn does(action: u8, moved: Moved, change: &Change) -> bool
+    ensures { Decides result ((action ≡ change.now.action) × (moved ≡ change.now.moved)) }
 {
-    patch.triples() == other.triples()
+    action == change.action && moved == change.moved
 }
 
 /// Whether this is the patch without its old values.
