@@ -238,7 +238,7 @@ IsJournal = IsJournalOf true entry_by
 
 -- ---- without old values
 
--- the entry, less its old values
+-- an entry as versions 1 and 2 write it: without old values
 abbrev pub plain_by : WrittenEntry → PlainEntry
 plain_by w = plain_entry (entry_by w)
 

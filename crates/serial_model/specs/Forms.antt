@@ -10,7 +10,7 @@ full_entry e = e
 
 -- A form tells which amoebot's entry it was. Of the entry's caller, turn and amoebot, and of a change, it makes an entry.
 pub record IsForm {E : Type 0} (form : Entry → E) (bot : E → ℕ) (entry : E → Change → Entry) : Type 0 where
-  -- it has all but the old values
+  -- entries that are told alike are the same, their old values aside
   pub keeps : (e d : Entry) → form e ≡ form d → plain_entry e ≡ plain_entry d
   -- the entry that it makes has that amoebot and that change, and the change of an entry makes that entry
   pub its_bot : (told : E) (change : Change) → (entry told change).bot ≡ bot told
@@ -20,7 +20,7 @@ pub record IsForm {E : Type 0} (form : Entry → E) (bot : E → ℕ) (entry : E
   pub decided : (told : E) (change : Change)
       → (form (entry told change) ≡ told) ⊎ (form (entry told change) ≡ told → ⊥)
 
--- What holds of something that is told in a form: of an entry, or of entries by the form of each.
+-- Something is told in a form: some entry, or some entries by the form of each, has that form, and this holds of it.
 pub record InForm {A E : Type 0} (form : A → E) (Holds : A → Type 0) (told : E) : Type 0 where
   pub source : A
   pub tells : form source ≡ told

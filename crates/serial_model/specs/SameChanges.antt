@@ -1,4 +1,4 @@
--- When changes are the same: `==` at each part says so.
+-- Proofs that `==` of changes and of their parts says when they are the same. `FormLaws` stands on them.
 use Rattle.std.proofs.Common.{rules, ◌≡◌, Bool, true, false, ◌&&◌, ◌⊎◌, inl, inr, ap, sym, ◌∙◌, refl}
 use Rattle.std.specs.Prelude.{nat_eq}
 use Rattle.std.specs.Bool.{Decides}
