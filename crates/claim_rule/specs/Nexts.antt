@@ -58,13 +58,20 @@ module _ {D : Type 0} (verdict : D → Shown → Verdict) (z : Terms D) (way : C
   abbrev pub stepped_on : State → Record → State
   stepped_on core r = next_by way (setup_of_terms verdict z) r.number core
 
+  -- the caller of a record makes its next step at the word i: it puts x there,
+  -- and the seat knows what it tells
+  abbrev pub MakesItsStep : Content D → State → ℕ → ℕ → Record
+      → List (ℕ × Slot) → (ℕ → Seated D → Type 0) → ℕ → Type 0
+  MakesItsStep s core i seat r out tells x =
+      LeadsTo s (stepped_on core r) i seat (view_of z (r ∷ []), out) tells x
+
   -- a try to claim a plain cell, which finds its word 0 and puts the tag, or leaves it
   abbrev pub ClaimIsNext : Type 0
   ClaimIsNext =
       (s : Content D) (core : State) (seat i t slots : ℕ) (r : Record) (out : List (ℕ × Slot))
       → IsAt s core seat r
       → IsToTry verdict way i t (view_of z (r ∷ []))
-      → LeadsTo s (stepped_on core r) i seat (view_of z (r ∷ []), out)
+      → MakesItsStep s core i seat r out
       (Claims verdict way (step slots i 0 t none) (view_of z (r ∷ []), out))
       (either (slice_index s.words i == 0) t (slice_index s.words i))
 
@@ -74,7 +81,7 @@ module _ {D : Type 0} (verdict : D → Shown → Verdict) (z : Terms D) (way : C
       (s : Content D) (core : State) (seat i slots : ℕ) (r : Record) (out : List (ℕ × Slot))
       → IsAt s core seat r
       → IsToFree verdict way i (view_of z (r ∷ []), out)
-      → LeadsTo s (stepped_on core r) i seat (view_of z (r ∷ []), out)
+      → MakesItsStep s core i seat r out
       (λ _. Releases verdict (step slots i 0 0 none) (view_of z (r ∷ []), out) 0) 0
 
   -- a look at the word that tells the journal's length, which leaves it
@@ -83,7 +90,7 @@ module _ {D : Type 0} (verdict : D → Shown → Verdict) (z : Terms D) (way : C
       (s : Content D) (core : State) (seat slots : ℕ) (r : Record) (out : List (ℕ × Slot))
       → IsAt s core seat r
       → IsToRead r.caller.phase
-      → LeadsTo s (stepped_on core r) (cells z.world) seat (view_of z (r ∷ []), out)
+      → MakesItsStep s core (cells z.world) seat r out
       (ReadsLength verdict way (step slots (cells z.world) 0 0 none) (view_of z (r ∷ []), out))
       (slice_index s.words (cells z.world))
 
@@ -98,8 +105,7 @@ module _ {D : Type 0} (verdict : D → Shown → Verdict) (z : Terms D) where
       → IsToTryNode verdict i (view_of z (r ∷ []))
       → (let w : ℕ = slice_index s.words i in
       let tells : ℕ → Seated D → Type 0 = LooksAt verdict (step slots i 0 0 none) (view_of z (r ∷ []), out) in
-      (word_tag w ≢ 0 → LeadsTo verdict z by_journal s
-      (stepped_on verdict z by_journal core r) i seat (view_of z (r ∷ []), out) tells w)
+      (word_tag w ≢ 0 → MakesItsStep verdict z by_journal s core i seat r out tells w)
       × (word_tag w ≡ 0 → LeadsTo verdict z by_journal s core i seat (view_of z (r ∷ []), out) tells w))
 
   -- a try to put the tag into the noted word of a node: where that is found, the node is won;
@@ -113,10 +119,8 @@ module _ {D : Type 0} (verdict : D → Shown → Verdict) (z : Terms D) where
       → (let w : ℕ = slice_index s.words i in
       let tells : ℕ → Seated D → Type 0 = TriesNode verdict
       (step slots i old new none) (view_of z (r ∷ []), out) in
-      (w ≡ old → LeadsTo verdict z by_journal s
-      (stepped_on verdict z by_journal core r) i seat (view_of z (r ∷ []), out) tells new)
-      × (word_tag w ≢ 0 → LeadsTo verdict z by_journal s
-      (stepped_on verdict z by_journal core r) i seat (view_of z (r ∷ []), out) tells w)
+      (w ≡ old → MakesItsStep verdict z by_journal s core i seat r out tells new)
+      × (word_tag w ≢ 0 → MakesItsStep verdict z by_journal s core i seat r out tells w)
       × (word_tag w ≡ 0 → w ≢ old
       → LeadsTo verdict z by_journal s core i seat (view_of z (r ∷ []), out) tells w))
 
@@ -126,8 +130,7 @@ module _ {D : Type 0} (verdict : D → Shown → Verdict) (z : Terms D) where
       (s : Content D) (core : State) (seat i x slots : ℕ) (r : Record) (out : List (ℕ × Slot))
       → IsAt verdict z by_journal s core seat r
       → IsToFreeNode verdict i x (view_of z (r ∷ []))
-      → LeadsTo verdict z by_journal s
-      (stepped_on verdict z by_journal core r) i seat (view_of z (r ∷ []), out)
+      → MakesItsStep verdict z by_journal s core i seat r out
       (λ _. ReleasesNode verdict (step slots i x 0 none) (view_of z (r ∷ []), out) x) x
 
   -- a try to take the journal, which makes its word odd, or leaves it
@@ -136,8 +139,7 @@ module _ {D : Type 0} (verdict : D → Shown → Verdict) (z : Terms D) where
       (s : Content D) (core : State) (seat slots : ℕ) (r : Record) (out : List (ℕ × Slot))
       → IsAt verdict z by_journal s core seat r
       → Takes r.caller.phase
-      → LeadsTo verdict z by_journal s (stepped_on verdict z by_journal core r)
-      (cells z.world) seat (view_of z (r ∷ []), out)
+      → MakesItsStep verdict z by_journal s core (cells z.world) seat r out
       (took verdict (step slots (cells z.world) 1 0 none) (view_of z (r ∷ []), out))
       (bit_or (slice_index s.words (cells z.world)) 1)
 
@@ -147,8 +149,7 @@ module _ {D : Type 0} (verdict : D → Shown → Verdict) (z : Terms D) where
       (s : Content D) (core : State) (seat x slots : ℕ) (r : Record) (out : List (ℕ × Slot))
       → IsAt verdict z by_journal s core seat r
       → IsToCommit verdict (journal_slot z.world) x (view_of z (r ∷ []), out)
-      → LeadsTo verdict z by_journal s (stepped_on verdict z by_journal core r)
-      (cells z.world) seat (view_of z (r ∷ []), out)
+      → MakesItsStep verdict z by_journal s core (cells z.world) seat r out
       (λ _. stored verdict (step slots (cells z.world) x 0 none) (view_of z (r ∷ []), out) x) x
 
   -- a commit that draws its place: the word of the length is one more
@@ -157,7 +158,6 @@ module _ {D : Type 0} (verdict : D → Shown → Verdict) (z : Terms D) where
       (s : Content D) (core : State) (seat slots : ℕ) (r : Record) (out : List (ℕ × Slot))
       → IsAt verdict z by_ticket s core seat r
       → Takes r.caller.phase
-      → LeadsTo verdict z by_ticket s (stepped_on verdict z by_ticket core r)
-      (cells z.world) seat (view_of z (r ∷ []), out)
+      → MakesItsStep verdict z by_ticket s core (cells z.world) seat r out
       (drew verdict (step slots (cells z.world) 1 0 none) (view_of z (r ∷ []), out))
       ((slice_index s.words (cells z.world) + 1) % 2 ^ 64)
