@@ -22,9 +22,10 @@ pub place_guards-loop-guard-preserved : goal.place_guards-loop-guard-preserved
 place_guards-loop-guard-preserved t c =
     let here : c.loop-guard.guard-index < length c.loop-guard.guards = omega arith in
     let e = c.replace-bare.ensures.value ∙ sym c.guard-item.is in
+    let after = c.replace.ensures.after in
     record {
       unvisited = search rules;
-      passed = passed_next c.guard-item.result c.placed_guard.result c.loop-guard.invariant.passed here c.guard-item.is (c.placed_guard.ensures.same ∙ ap guard_of e) c.placed_guard.ensures.placed;
+      passed = passed_next c.guard-item.result c.replace.new.dest c.loop-guard.invariant.passed here c.guard-item.is (ap guard_of after ∙ c.placed_guard.ensures.same ∙ ap guard_of e) (rw after c.placed_guard.ensures.placed);
     }
 
 pub place_parts-placed_part-requires : goal.place_parts-placed_part-requires
@@ -42,7 +43,8 @@ pub place_parts-loop-part-preserved : goal.place_parts-loop-part-preserved
 place_parts-loop-part-preserved t c =
     let here : c.loop-part.part-index < length c.loop-part.parts = omega arith in
     let e = c.replace-bare.ensures.value ∙ sym c.part-item.is in
+    let after = c.replace.ensures.after in
     record {
       unvisited = search rules;
-      passed = passed_next c.part-item.result c.placed_part.result c.loop-part.invariant.passed here c.part-item.is (c.placed_part.ensures.same ∙ ap part_of e) c.placed_part.ensures.placed;
+      passed = passed_next c.part-item.result c.replace.new.dest c.loop-part.invariant.passed here c.part-item.is (ap part_of after ∙ c.placed_part.ensures.same ∙ ap part_of e) (rw after c.placed_part.ensures.placed);
     }
