@@ -5,6 +5,8 @@ pub mod Produced
 pub mod ProducedStatements
 pub mod WordsLemmas
 pub mod Viewed
+pub mod PlacedExpressions
+pub mod PlacedStatements
 pub mod RolesLemmas
 pub mod ExpressionRoles
 pub mod ExpressionLaws

@@ -18,11 +18,12 @@ use Rattle.action_tree.specs.declared.expression.Part.{Part, roll-Part}
 use Rattle.action_tree.specs.declared.expression.Term.{Term}
 use Rattle.action_tree.specs.declared.expression.Guard.TheOpen.{Guard-F, PortExpr-F, Term-F, Part-F, Sum-F}
 use Rattle.action_tree.specs.declared.expression.Guard.TheFolds.{fold-roll-Guard, fold-roll-PortExpr, fold-roll-Term, fold-roll-Part, fold-roll-Sum, fold_out-Part, fold_out-Sum}
+use Rattle.action_tree.specs.declared.statement.Stmt.{Stmt}
 use Rattle.action_tree.specs.declared.statement.Stmt.TheVariants as stmt
 use Rattle.action_tree.specs.declared.statement.Stmt.TheOpen.{Stmt-F}
 use Rattle.action_tree.specs.declared.statement.Stmt.TheFolds.{fold-roll-Stmt}
 use Rattle.action_tree.specs.Trees as tree
-use Rattle.action_tree.specs.Views.{guard_step, port_step, term_step, part_step, sum_step, stmt_step, name_of, literal_of, dirterm_of, guard_of, guards_of, sum_of, part_of, term_of, port_of, terms_of, stmt_of}
+use Rattle.action_tree.specs.Views.{guard_step, port_step, term_step, part_step, sum_step, stmt_step, name_of, literal_of, dirterm_of, guard_of, guards_of, sum_of, part_of, term_of, port_of, terms_of, stmt_of, stmts_of}
 
 pub guard_contracted : guard_of guard.Contracted ≡ tree.atom tree.contracted
 guard_contracted = ap guard_of (sym guard.rolls-Contracted) ∙ fold-roll-Guard tree.Guard tree.PortExpr tree.Term tree.Part tree.Sum guard_step port_step term_step part_step sum_step Guard-F.Contracted
@@ -112,3 +113,9 @@ stmt_put_of p w s = ap stmt_of (sym (stmt.rolls-PutOf p w s)) ∙ fold-roll-Stmt
 
 pub stmt_let : (w : Word) (p : PortExpr) → stmt_of (stmt.Let w p) ≡ tree.let_be (name_of w) (port_of p)
 stmt_let w p = ap stmt_of (sym (stmt.rolls-Let w p)) ∙ fold-roll-Stmt tree.Stmt stmt_step (Stmt-F.Let w p)
+
+pub stmt_if : (g : Guard) (v w : Vec Stmt Global) → stmt_of (stmt.If g v w) ≡ tree.if_then (guard_of g) (stmts_of v.items) (stmts_of w.items)
+stmt_if g v w = ap stmt_of (sym (stmt.rolls-If g v w)) ∙ fold-roll-Stmt tree.Stmt stmt_step (Stmt-F.If g v w)
+
+pub stmt_for : (w : Word) (s : PortSet) (g : Guard) (v : Vec Stmt Global) → stmt_of (stmt.For w s g v) ≡ tree.for_each (name_of w) s (guard_of g) (stmts_of v.items)
+stmt_for w s g v = ap stmt_of (sym (stmt.rolls-For w s g v)) ∙ fold-roll-Stmt tree.Stmt stmt_step (Stmt-F.For w s g v)

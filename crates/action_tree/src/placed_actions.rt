@@ -66,7 +66,7 @@ fn place_stmts<'v>(stmts: &mut [Stmt], mut scope: Scope<'v>) -> Scope<'v>
 {
     for stmt in stmts.iter_mut() {
         let bare = mem::replace(stmt, no_stmt());
-        *stmt = placed_stmt(bare, &scope);
+        drop(mem::replace(stmt, placed_stmt(bare, &scope)));
         scope = behind_stmt(stmt, scope);
     }
     scope

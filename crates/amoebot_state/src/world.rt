@@ -1,4 +1,4 @@
-ghost use Rattle.std.specs.Prelude.{ℕ, ◌≡◌, ◌⊎◌, ◌+◌, ◌++◌, ◌∷◌, ◌<◌, ◌≤◌, [], OnOk, IfOk, IfErr, filter, length, map, IsSome, Decides, if◌then◌else◌};
+ghost use Rattle.std.specs.Prelude.{ℕ, ◌≡◌, ◌⊎◌, ◌+◌, ◌++◌, ◌∷◌, ◌<◌, ◌≤◌, [], OnOk, IfOk, IfErr, filter, length, map, IsSome, Decides, is_some, ◌&&◌, ◌||◌, if◌then◌else◌};
 ghost use Rattle.std.specs.List.{All, filter_map};
 ghost use Rattle.amoebot_state.specs.Limits.{most_bots, most_cells, most_nodes, most_walls};
 ghost use Rattle.amoebot_state.specs.Configs.{Config, IsValid, bot_at, frame, is_wall, occupant, frame_of, walled_frame, with_these, with_bot};
@@ -6,7 +6,7 @@ ghost use Rattle.amoebot_state.specs.Zones.{IsShown, shown, shown_cell, shown_wi
 ghost use Rattle.amoebot_state.specs.Known.{walls_read};
 ghost use Rattle.amoebot_state.specs.Ways.{reading};
 ghost use Rattle.amoebot_state.specs.Pairs.{nodes_in, plain_patch};
-ghost use Rattle.tri_lattice.specs.Extent.{index_of};
+ghost use Rattle.tri_lattice.specs.Extent.{index_of, is_in};
 ghost use Rattle.amoebot_state.specs.Patches.{IsPatched, HasPatched};
 ghost use Rattle.amoebot_state.specs.Refusals.{AreWalls, IsBotInRange, IsFaultless, IsFirstFault, IsFirstRefusal, bot_fault};
 ghost use Rattle.arrayvec.specs.ArrayVec.{array_vec_len};
@@ -127,23 +127,44 @@ impl World {
         ensures { result ≡ bot_fault self.now bot.now }
     {
         let id = self.amoebots.len() as u16;
-        let area = self.frame.area();
-        if area.index(bot.head).is_none() || area.index(bot.tail).is_none() {
+        if !self.is_inside(bot) {
             return Some(WorldRefusal::OutOfBox(id));
         }
         if !is_close(bot.head, bot.tail) {
             return Some(WorldRefusal::NotAdjacent(id));
         }
-        if self.is_wall(bot.head) || self.is_wall(bot.tail) {
+        if self.is_on_wall(bot) {
             return Some(WorldRefusal::OnWall(id));
         }
-        if self.occupant(bot.head).is_some() || self.occupant(bot.tail).is_some() {
+        if self.is_on_other(bot) {
             return Some(WorldRefusal::Overlap(id));
         }
         if !has_values(self.frame.maxes(), &bot.mem) {
             return Some(WorldRefusal::BadValue(id));
         }
         None
+    }
+
+    /// Whether both nodes of an amoebot lie in the area.
+    fn is_inside(&self, bot: &Bot) -> bool
+        ensures { result ≡ (is_in self.now.area bot.now.head && is_in self.now.area bot.now.tail) }
+    {
+        let area = self.frame.area();
+        area.index(bot.head).is_some() && area.index(bot.tail).is_some()
+    }
+
+    /// Whether a node of an amoebot is a wall.
+    fn is_on_wall(&self, bot: &Bot) -> bool
+        ensures { result ≡ (is_wall self.now bot.now.head || is_wall self.now bot.now.tail) }
+    {
+        self.is_wall(bot.head) || self.is_wall(bot.tail)
+    }
+
+    /// Whether a node of an amoebot has an occupant.
+    fn is_on_other(&self, bot: &Bot) -> bool
+        ensures { result ≡ (is_some (occupant self.now bot.now.head) || is_some (occupant self.now bot.now.tail)) }
+    {
+        self.occupant(bot.head).is_some() || self.occupant(bot.tail).is_some()
     }
 
     fn add(&mut self, bot: &Bot) -> Result<(), WorldRefusal>

@@ -5,14 +5,14 @@ use Rattle.std.specs.declared.option.Option.{Option}
 use Rattle.std.specs.declared.option.Option.TheVariants.{Some, None}
 use Rattle.std.specs.Option.{option_and_then, option_map}
 use Rattle.std.proofs.lemmas.Nat.{mul-add-lt, same_from_place, mod_below, div-add-mod'}
-use Rattle.std.proofs.lemmas.Bool.{lt-ltb, ltb-true, false≢true}
+use Rattle.std.proofs.lemmas.Bool.{lt-ltb, le-ltb, ltb-true, false≢true}
 use Rattle.std.proofs.lemmas.Option.{cond_some, none-some, same_Some}
 use Rattle.tri_lattice.proofs.Nodes.{same_node, stepped}
 use Rattle.tri_lattice.specs.declared.node.Node.{Node}
 use Rattle.tri_lattice.specs.Extent.{Extent, axis_offset, index_of, is_in, node_at, IsArea}
 use Rattle.tri_lattice.specs.Laws.{IsWithin, BoxIsItsBounds, NodesHaveNumbers, NumbersHaveNodes}
 use Rattle.tri_lattice.specs.Lattice.{IsNear}
-use Rattle.std.specs.Prelude.{IsTrue, is_some, ◌-ℤ◌, ◌≤ℤ◌}
+use Rattle.std.specs.Prelude.{IsTrue, is_some, ◌-ℤ◌, ◌≤ℤ◌, ◌<ℤ◌}
 use Rattle.std.proofs.lemmas.Int.{ints}
 
 -- what has a place in a side has one below its length
@@ -71,6 +71,15 @@ index_once a u v k eu ev =
 pub place_at : (z : ℤ) (side n : ℕ) → z ≡ pos n → n < side → axis_offset z side ≡ Some n
 place_at z side n e l = ap (λ x. axis_offset x side) e ∙ ap (λ b. cond b (Some n) None) (lt-ltb n side l)
 
+-- what lies before the beginning of a side has no place in it, and what lies past its end has none
+pub none_before : (z : ℤ) (side : ℕ) → (z <ℤ pos 0) → None ≡ axis_offset z side
+none_before (pos n) side l = absurd (omega (arith, ints))
+none_before (negsuc n) side l = refl
+
+pub none_past : (z : ℤ) (side : ℕ) → (pos side ≤ℤ z) → None ≡ axis_offset z side
+none_past (pos n) side l = sym (ap (λ b. cond b (Some n) None) (le-ltb n side (omega (arith, ints))))
+none_past (negsuc n) side l = refl
+
 -- the number from the places
 pub index_at : (a : Extent) (v : Node) (i j : ℕ) → v.x -ℤ a.x0 ≡ pos i → i < a.w → v.y -ℤ a.y0 ≡ pos j → j < a.h → index_of a v ≡ Some (j * a.w + i)
 index_at a v i j x li y lj =
@@ -101,12 +110,14 @@ has_width : (w h k : ℕ) → k < w * h → 0 < w
 has_width zero h k l = absurd (omega arith)
 has_width (suc w) h k l = omega arith
 
+-- the row of a number below the size
+pub row_of : (w h k : ℕ) → k < w * h → k / w < h
+row_of w h k l = (div-lt_iff_lt-mul (has_width w h k l)).1 (omega (arith, mul_comm w h))
+
 -- a number is that of the node with it
 pub index_of_node_at : NodesHaveNumbers
 index_of_node_at a k l =
-    let wide = has_width a.w a.h k l in
-    let row : k / a.w < a.h = (div-lt_iff_lt-mul wide).1 (omega (arith, mul_comm a.w a.h)) in
-    index_at a (node_at a k) (k % a.w) (k / a.w) (stepped _ _) (mod_below k a.w wide) (stepped _ _) row
+    index_at a (node_at a k) (k % a.w) (k / a.w) (stepped _ _) (mod_below k a.w (has_width a.w a.h k l)) (stepped _ _) (row_of a.w a.h k l)
     ∙ ap Some (div-add-mod' k a.w)
 
 -- and a node is the one with its number

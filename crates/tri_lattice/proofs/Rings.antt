@@ -1,5 +1,5 @@
 -- When all six neighbours of a node lie in a box.
-use Rattle.std.proofs.Common.{◌≡◌, ◌<◌, ◌+◌, ℕ, ℤ, pos, negsuc, ◌+ℤ◌, ◌-ℤ◌, ◌≤ℤ◌, true, arith, refl}
+use Rattle.std.proofs.Common.{◌≡◌, ◌<◌, ◌≤◌, ◌+◌, ◌&&◌, ◌∙◌, ltb, zero, suc, ap, sym, ℕ, ℤ, pos, negsuc, ◌+ℤ◌, ◌-ℤ◌, ◌≤ℤ◌, ◌<ℤ◌, true, false, arith, refl}
 use Rattle.std.proofs.lemmas.Bool.{and_parts, and_from, lt-ltb, ltb-true, false≢true}
 use Rattle.std.proofs.lemmas.Int.{ints}
 use Rattle.std.specs.Prelude.{IsTrue}
@@ -16,6 +16,19 @@ amid_parts (negsuc n) side t = absurd (false≢true t)
 amid_from : (z : ℤ) (side : ℕ) → (pos 1 ≤ℤ z) → ((z +ℤ pos 2) ≤ℤ pos side) → is_amid_side z side ≡ true
 amid_from (pos n) side low high = and_from _ _ (lt-ltb 0 n (omega (arith, ints))) (lt-ltb (n + 1) side (omega (arith, ints)))
 amid_from (negsuc n) side low high = absurd (omega (arith, ints))
+
+-- what lies before the beginning of a side, or at it, is not amid it; what lies behind the beginning is where the end is far enough
+pub before_amid : (z : ℤ) (side : ℕ) → (z <ℤ pos 0) → false ≡ is_amid_side z side
+before_amid (pos n) side l = absurd (omega (arith, ints))
+before_amid (negsuc n) side l = refl
+
+pub at_amid : (z : ℤ) (side n : ℕ) → z ≡ pos n → n ≤ 0 → ltb 0 n ≡ is_amid_side z side
+at_amid z side zero e l = ap (λ x. is_amid_side x side) (sym e)
+at_amid z side (suc n) e l = absurd (omega arith)
+
+pub behind_amid : (z : ℤ) (side n m : ℕ) → z ≡ pos n → 0 < n → m ≡ side → ltb (n + 1) m ≡ is_amid_side z side
+behind_amid z side n m e l s =
+    ap (ltb (n + 1)) s ∙ ap (λ b. b && ltb (n + 1) side) (sym (lt-ltb 0 n l)) ∙ ap (λ x. is_amid_side x side) (sym e)
 
 -- from a node at no side each step leads to a node of the box
 pub ring_inside : (a : Extent) (v : Node) → is_amid a v ≡ true → (d : ℕ) → d < 6 → IsTrue (is_in a (step v d))

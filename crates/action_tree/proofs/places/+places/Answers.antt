@@ -1,9 +1,13 @@
 use denote.Param.Weighed.{at_most}
-use Rattle.std.proofs.Common.{◌<◌, length, ap, sym, ◌∙◌, rules, arith}
+use Rattle.std.proofs.Common.{◌≡◌, ◌<◌, true, length, ap, sym, subst, ◌∙◌, rules, arith}
+use Rattle.std.proofs.lemmas.List.{with_items_is}
 use Rattle.action_tree.specs.PlacedScope.{placed_scope}
-use Rattle.action_tree.specs.Views.{guard_of, part_of}
+use Rattle.action_tree.specs.Places.{guard_placed, guards_placed}
+use Rattle.action_tree.specs.Scopes.{Scope}
+use Rattle.action_tree.specs.Views.{guard_of, guards_of, part_of}
 use Rattle.action_tree.proofs.expression.Guard.TheLaws.{the_size}
 use Rattle.action_tree.proofs.expression.Part.TheLaws.{the_size as part_size}
+use Rattle.action_tree.proofs.PlacedExpressions.{and_same, and_placed, or_same, or_placed, any_same, any_placed, all_same, all_placed, compare_same, compare_placed, linked_same, linked_placed, free_same, free_placed, at_head_same, at_head_placed, peer_expanded_same, peer_expanded_placed, peer_head_same, peer_head_placed, member_same, member_placed, count_same, count_placed, first_same, first_placed}
 use Rattle.action_tree.proofs.PlacesLemmas.{passed_next, guard_room, part_room}
 use Rattle.action_tree.proofs.places.+places.Goals as goal
 
@@ -22,9 +26,10 @@ pub place_guards-loop-guard-preserved : goal.place_guards-loop-guard-preserved
 place_guards-loop-guard-preserved t c =
     let here : c.loop-guard.guard-index < length c.loop-guard.guards = omega arith in
     let e = c.replace-bare.ensures.value ∙ sym c.guard-item.is in
+    let after = c.replace.ensures.after in
     record {
       unvisited = search rules;
-      passed = passed_next c.guard-item.result c.placed_guard.result c.loop-guard.invariant.passed here c.guard-item.is (c.placed_guard.ensures.same ∙ ap guard_of e) c.placed_guard.ensures.placed;
+      passed = passed_next c.guard-item.result c.replace.new.dest c.loop-guard.invariant.passed here c.guard-item.is (ap guard_of after ∙ c.placed_guard.ensures.same ∙ ap guard_of e) (rw after c.placed_guard.ensures.placed);
     }
 
 pub place_parts-placed_part-requires : goal.place_parts-placed_part-requires
@@ -42,7 +47,104 @@ pub place_parts-loop-part-preserved : goal.place_parts-loop-part-preserved
 place_parts-loop-part-preserved t c =
     let here : c.loop-part.part-index < length c.loop-part.parts = omega arith in
     let e = c.replace-bare.ensures.value ∙ sym c.part-item.is in
+    let after = c.replace.ensures.after in
     record {
       unvisited = search rules;
-      passed = passed_next c.part-item.result c.placed_part.result c.loop-part.invariant.passed here c.part-item.is (c.placed_part.ensures.same ∙ ap part_of e) c.placed_part.ensures.placed;
+      passed = passed_next c.part-item.result c.replace.new.dest c.loop-part.invariant.passed here c.part-item.is (ap part_of after ∙ c.placed_part.ensures.same ∙ ap part_of e) (rw after c.placed_part.ensures.placed);
     }
+
+pub placed_guard-returns-in-And-clause-same : goal.placed_guard-returns-in-And-clause-same
+placed_guard-returns-in-And-clause-same t c =
+    let items = with_items_is c.in-And.guards c.place_guards.new.guards (omega (arith, ap length c.deref_mut.ensures.value)) in
+    and_same c.args.guard _ _ c.in-And.is (ap guards_of items ∙ c.place_guards.ensures.same ∙ ap guards_of c.deref_mut.ensures.value)
+
+pub placed_guard-returns-in-And-clause-placed : goal.placed_guard-returns-in-And-clause-placed
+placed_guard-returns-in-And-clause-placed t c =
+    let items = with_items_is c.in-And.guards c.place_guards.new.guards (omega (arith, ap length c.deref_mut.ensures.value)) in
+    and_placed _ _ (ap (λ gs. guards_placed gs (placed_scope c.args.scope.now)) items ∙ c.place_guards.ensures.placed)
+
+pub placed_guard-returns-in-Or-clause-same : goal.placed_guard-returns-in-Or-clause-same
+placed_guard-returns-in-Or-clause-same t c =
+    let items = with_items_is c.in-Or.guards c.place_guards-in-Or.new.guards (omega (arith, ap length c.deref_mut-in-Or.ensures.value)) in
+    or_same c.args.guard _ _ c.in-Or.is (ap guards_of items ∙ c.place_guards-in-Or.ensures.same ∙ ap guards_of c.deref_mut-in-Or.ensures.value)
+
+pub placed_guard-returns-in-Or-clause-placed : goal.placed_guard-returns-in-Or-clause-placed
+placed_guard-returns-in-Or-clause-placed t c =
+    let items = with_items_is c.in-Or.guards c.place_guards-in-Or.new.guards (omega (arith, ap length c.deref_mut-in-Or.ensures.value)) in
+    or_placed _ _ (ap (λ gs. guards_placed gs (placed_scope c.args.scope.now)) items ∙ c.place_guards-in-Or.ensures.placed)
+
+pub placed_guard-returns-in-Any-clause-same : goal.placed_guard-returns-in-Any-clause-same
+placed_guard-returns-in-Any-clause-same t c = any_same c.args.guard _ _ _ _ c.in-Any.is c.placed_box-guard.ensures.same
+
+pub placed_guard-returns-in-Any-clause-placed : goal.placed_guard-returns-in-Any-clause-placed
+placed_guard-returns-in-Any-clause-placed t c =
+    let P : Scope → Type 0 = λ sc. guard_placed c.placed_box-guard.result.value sc ≡ true in
+    any_placed _ _ _ _ (subst P c.bind.ensures c.placed_box-guard.ensures.placed)
+
+pub placed_guard-returns-in-All-clause-same : goal.placed_guard-returns-in-All-clause-same
+placed_guard-returns-in-All-clause-same t c = all_same c.args.guard _ _ _ _ c.in-All.is c.placed_box-guard-in-All.ensures.same
+
+pub placed_guard-returns-in-All-clause-placed : goal.placed_guard-returns-in-All-clause-placed
+placed_guard-returns-in-All-clause-placed t c =
+    let P : Scope → Type 0 = λ sc. guard_placed c.placed_box-guard-in-All.result.value sc ≡ true in
+    all_placed _ _ _ _ (subst P c.bind-in-All.ensures c.placed_box-guard-in-All.ensures.placed)
+
+pub placed_guard-returns-in-Compare-clause-same : goal.placed_guard-returns-in-Compare-clause-same
+placed_guard-returns-in-Compare-clause-same t c =
+    compare_same c.args.guard _ _ _ _ _ c.in-Compare.is c.placed_sum-left.ensures.same c.placed_sum-right.ensures.same
+
+pub placed_guard-returns-in-Compare-clause-placed : goal.placed_guard-returns-in-Compare-clause-placed
+placed_guard-returns-in-Compare-clause-placed t c =
+    compare_placed _ _ _ _ c.placed_sum-left.ensures.placed c.placed_sum-right.ensures.placed
+
+pub placed_guard-returns-in-Linked-clause-same : goal.placed_guard-returns-in-Linked-clause-same
+placed_guard-returns-in-Linked-clause-same t c = linked_same c.args.guard _ _ c.in-Linked.is c.placed_port.ensures.same
+
+pub placed_guard-returns-in-Linked-clause-placed : goal.placed_guard-returns-in-Linked-clause-placed
+placed_guard-returns-in-Linked-clause-placed t c = linked_placed _ _ c.placed_port.ensures.placed
+
+pub placed_guard-returns-in-Free-clause-same : goal.placed_guard-returns-in-Free-clause-same
+placed_guard-returns-in-Free-clause-same t c = free_same c.args.guard _ _ c.in-Free.is c.placed_port-in-Free.ensures.same
+
+pub placed_guard-returns-in-Free-clause-placed : goal.placed_guard-returns-in-Free-clause-placed
+placed_guard-returns-in-Free-clause-placed t c = free_placed _ _ c.placed_port-in-Free.ensures.placed
+
+pub placed_guard-returns-in-AtHead-clause-same : goal.placed_guard-returns-in-AtHead-clause-same
+placed_guard-returns-in-AtHead-clause-same t c = at_head_same c.args.guard _ _ c.in-AtHead.is c.placed_port-in-AtHead.ensures.same
+
+pub placed_guard-returns-in-AtHead-clause-placed : goal.placed_guard-returns-in-AtHead-clause-placed
+placed_guard-returns-in-AtHead-clause-placed t c = at_head_placed _ _ c.placed_port-in-AtHead.ensures.placed
+
+pub placed_guard-returns-in-PeerExpanded-clause-same : goal.placed_guard-returns-in-PeerExpanded-clause-same
+placed_guard-returns-in-PeerExpanded-clause-same t c = peer_expanded_same c.args.guard _ _ c.in-PeerExpanded.is c.placed_port-in-PeerExpanded.ensures.same
+
+pub placed_guard-returns-in-PeerExpanded-clause-placed : goal.placed_guard-returns-in-PeerExpanded-clause-placed
+placed_guard-returns-in-PeerExpanded-clause-placed t c = peer_expanded_placed _ _ c.placed_port-in-PeerExpanded.ensures.placed
+
+pub placed_guard-returns-in-PeerHead-clause-same : goal.placed_guard-returns-in-PeerHead-clause-same
+placed_guard-returns-in-PeerHead-clause-same t c = peer_head_same c.args.guard _ _ c.in-PeerHead.is c.placed_port-in-PeerHead.ensures.same
+
+pub placed_guard-returns-in-PeerHead-clause-placed : goal.placed_guard-returns-in-PeerHead-clause-placed
+placed_guard-returns-in-PeerHead-clause-placed t c = peer_head_placed _ _ c.placed_port-in-PeerHead.ensures.placed
+
+pub placed_term-returns-in-Of-clause-same : goal.placed_term-returns-in-Of-clause-same
+placed_term-returns-in-Of-clause-same t c = member_same c.args.term _ _ _ _ c.in-Of.is c.placed_port.ensures.same c.placed_var-in-Of.ensures.same
+
+pub placed_term-returns-in-Of-clause-placed : goal.placed_term-returns-in-Of-clause-placed
+placed_term-returns-in-Of-clause-placed t c = member_placed _ _ _ c.placed_port.ensures.placed c.placed_var-in-Of.ensures.placed
+
+pub placed_term-returns-in-Count-clause-same : goal.placed_term-returns-in-Count-clause-same
+placed_term-returns-in-Count-clause-same t c = count_same c.args.term _ _ _ _ c.in-Count.is c.placed_box-guard.ensures.same
+
+pub placed_term-returns-in-Count-clause-placed : goal.placed_term-returns-in-Count-clause-placed
+placed_term-returns-in-Count-clause-placed t c =
+    let P : Scope → Type 0 = λ sc. guard_placed c.placed_box-guard.result.value sc ≡ true in
+    count_placed _ _ _ _ (subst P c.bind.ensures c.placed_box-guard.ensures.placed)
+
+pub placed_port-returns-in-First-clause-same : goal.placed_port-returns-in-First-clause-same
+placed_port-returns-in-First-clause-same t c = first_same c.args.port _ _ _ _ c.in-First.is c.placed_box-guard.ensures.same
+
+pub placed_port-returns-in-First-clause-placed : goal.placed_port-returns-in-First-clause-placed
+placed_port-returns-in-First-clause-placed t c =
+    let P : Scope → Type 0 = λ sc. guard_placed c.placed_box-guard.result.value sc ≡ true in
+    first_placed _ _ _ _ (subst P c.bind.ensures c.placed_box-guard.ensures.placed)
