@@ -7,7 +7,7 @@ from concurrent.futures import ThreadPoolExecutor
 from typing import Any, Callable, Dict, Optional, Sequence, Tuple
 
 from . import calls, figures, tables
-from .document import Document
+from .document import Document, Program
 from .lists import Lists
 from .picture import draw, last_shape
 from .rest import run_to_rest
@@ -61,7 +61,8 @@ def _series(asked: Any) -> str:
 def _film(asked: Any) -> str:
     """Draws the shape at each place, or at each so-many-th one."""
     document = calls.read(_text(asked))
-    return "".join(f"place {place}\n{draw(shape, _at(document, asked.variable))}"
+    at = asked.variable and document.program.number_of(asked.variable)
+    return "".join(f"place {place}\n{draw(shape, at)}"
                    for place, shape in enumerate(document.shapes()) if place % asked.step == 0)
 
 
@@ -71,11 +72,8 @@ def _draw(asked: Any) -> str:
     if text.startswith(("refused ", "differs ")):
         raise error_of(0, text)
     shape = last_shape(text)
-    return draw(shape, asked.variable and _at(Document.parse(text), asked.variable)) if shape else "no shape\n"
-
-
-def _at(document: Document, variable: Optional[str]) -> Optional[int]:
-    return None if variable is None else list(document.program.variables).index(variable)
+    at = asked.variable and Program.parse(text).number_of(asked.variable)
+    return draw(shape, at) if shape else "no shape\n"
 
 
 def _json(asked: Any) -> str:

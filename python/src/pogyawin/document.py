@@ -22,6 +22,19 @@ class Program:
 
     text: str
 
+    @classmethod
+    def parse(cls, text: str) -> Program:
+        """The program of a text with other sections round it. Raises `Unread` where there is none."""
+        begin = -1
+        for word in _WORD_OR_COMMENT.finditer(text):
+            if word.group() == "program" and begin < 0:
+                begin = word.start()
+            elif word.group() == "end":
+                if begin >= 0:
+                    return cls(text[begin:word.end()])
+                break
+        raise Unread("there is no program up to its end")
+
     def __str__(self) -> str:
         return self.text + "\n"
 
@@ -38,25 +51,11 @@ class Program:
         return tuple(words[at + 1] for at, word in enumerate(words) if word == "action")
 
     def number_of(self, variable: str) -> int:
-        """The place of a variable, from 0 on. Raises `KeyError` for a name that is none."""
+        """The place of a variable, from 0 on. Raises `LookupError` for a name that is none."""
         names = list(self.variables)
         if variable not in names:
-            raise KeyError(f"the program has no variable {variable}; it has {', '.join(names) or 'none'}")
+            raise LookupError(f"the program has no variable {variable}; it has {', '.join(names) or 'none'}")
         return names.index(variable)
-
-
-def place_of_program(text: str) -> Tuple[int, int]:
-    """Where the program of a text begins and ends, in characters. Raises `Unread` where there is none.
-    `place_of_program("amoebot 1 program end") == (10, 21)`"""
-    begin = -1
-    for word in _WORD_OR_COMMENT.finditer(text):
-        if word.group() == "program" and begin < 0:
-            begin = word.start()
-        elif word.group() == "end":
-            if begin >= 0:
-                return begin, word.end()
-            break
-    raise Unread("there is no program up to its end")
 
 
 @dataclass(frozen=True)
@@ -77,10 +76,11 @@ class Document:
     @classmethod
     def parse(cls, text: str) -> Document:
         """The document of a text that is known to be one. Raises `Unread`; `read` judges a text too."""
-        begin, end = place_of_program(text)
-        header = Tokens(text[:begin])
+        program = Program.parse(text)
+        front, _, rest = text.partition(program.text)
+        header = Tokens(front)
         header.word("amoebot")
-        return cls(Program(text[begin:end]), version=header.number()).with_sections(text[end:])
+        return cls(program, version=header.number()).with_sections(rest)
 
     def with_sections(self, text: str) -> Document:
         """This document with the sections of a text, such as what a run wrote. Raises `Unread`."""

@@ -74,7 +74,7 @@ class Shape:
         """Contracted amoebots on these nodes, in their order. `values` are those of each amoebot, or a function
         from its number. The area goes on for `margin` nodes beside amoebots and walls.
         Raises `ValueError` where there is no node."""
-        bots = tuple(Bot(node, node, values=tuple(values(number) if callable(values) else values))
+        bots = tuple(Bot(node, node, values=tuple(map(int, values(number) if callable(values) else values)))
                      for number, node in enumerate(nodes))
         there = tuple(sorted(walls, key=lambda node: node[::-1]))
         xs, ys = zip(*(bot.head for bot in bots), *there)

@@ -40,12 +40,9 @@ class Table:
 
 def series(document: Document, variable: str = "", bot: Optional[int] = None, **counts: Callable[[Bot], bool]) -> Table:
     """At each place how many amoebots have each value of a variable, or the value of one amoebot by its number; and how
-    many meet each condition. Raises `KeyError` for a name that is no variable.
+    many meet each condition. Raises `LookupError` for a name that is no variable.
     `series(run(LIGHT), "lit").rows[1] == (1, 1, 2) and series(LIGHT, lit=lambda bot: bot.values[0] == 1).rows == ((0, 1),)`"""
-    names = list(document.program.variables)
-    if variable and variable not in names:
-        raise KeyError(f"the program has no variable {variable}; it has {', '.join(names) or 'none'}")
-    at, one = names.index(variable) if variable else 0, [variable] if bot is not None else []
+    at, one = document.program.number_of(variable) if variable else 0, [variable] if bot is not None else []
     values = range(document.program.variables[variable] + 1) if variable and not one else range(0)
     rows = []
     for place, shape in enumerate(document.shapes()):
