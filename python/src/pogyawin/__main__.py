@@ -15,7 +15,6 @@ from .shape import Shape
 from .status import CallError, error_of
 from .sweeps import sweep
 
-
 def main(words: Optional[Sequence[str]] = None) -> int:
     """Does what the words say. The status is 0, or that of the call that failed, or 1. `main(["draw", "/dev/null"]) == 0`"""
     asked = _parser().parse_args(words)
@@ -29,10 +28,8 @@ def main(words: Optional[Sequence[str]] = None) -> int:
         print(f"pogyawin: {error}", file=sys.stderr)
         return 1
 
-
 def _text(asked: Any) -> bytes:
     return b"".join(pathlib.Path(file).read_bytes() for file in asked.files) if asked.files else sys.stdin.buffer.read()
-
 
 def _shape(asked: Any) -> str:
     """Writes a section `shape` and, with --callers, lists by place."""
@@ -44,7 +41,6 @@ def _shape(asked: Any) -> str:
     shape = shape.turned(asked.seed) if asked.turned else shape
     return str(shape) + (str(Lists.by_place(shape, asked.callers, asked.turns)) if asked.callers else "")
 
-
 def _rest(asked: Any) -> str:
     """Runs the program of a document on from its shape to rest, writes the whole run, and says how it ended."""
     document = calls.read(_text(asked))
@@ -52,11 +48,9 @@ def _rest(asked: Any) -> str:
     print(ended.ending.value, *(f"{bot} fails: {why}" for bot, why in ended.failing.items()), sep="\n", file=sys.stderr)
     return str(ended.document)
 
-
 def _series(asked: Any) -> str:
     """Writes how many amoebots have each value of a variable at each place, as CSV; or the value of one, with --bot."""
     return tables.series(calls.read(_text(asked)), asked.variable, asked.bot).to_csv()
-
 
 def _film(asked: Any) -> str:
     """Draws the shape at each place, or at each so-many-th one."""
@@ -64,7 +58,6 @@ def _film(asked: Any) -> str:
     at = asked.variable and document.program.number_of(asked.variable)
     return "".join(f"place {place}\n{draw(shape, at)}"
                    for place, shape in enumerate(document.shapes()) if place % asked.step == 0)
-
 
 def _draw(asked: Any) -> str:
     """Draws the last shape of a document, or of what a run wrote. A refusal is passed on."""
@@ -75,11 +68,9 @@ def _draw(asked: Any) -> str:
     at = asked.variable and Program.parse(text).number_of(asked.variable)
     return draw(shape, at) if shape else "no shape\n"
 
-
 def _json(asked: Any) -> str:
     """Writes a document as one object of JSON."""
     return tables.to_json(calls.read(_text(asked))) + "\n"
-
 
 def _sweep(asked: Any) -> str:
     """Makes a call for each file, and writes the answers as CSV. What a run makes of FILE goes to FILE.run."""
@@ -94,7 +85,6 @@ def _sweep(asked: Any) -> str:
         answers = sweep(answer, asked.files, pool.map)
     kinds = (type(answer).__name__ if isinstance(answer, Exception) else "" for answer in answers)
     return tables.Table(("file", "failure", "answer"), tuple(zip(asked.files, kinds, answers))).to_csv()
-
 
 _FIGURES = ("row", "ring", "hexagon", "parallelogram", "triangle", "blob", "tree")
 _CALLS = ("run", "tickets", "interleave", "replay", "renew", "rounds", "elect", "measure")
@@ -123,7 +113,6 @@ _COMMANDS: Dict[Callable[[Any], str], str] = {
     _rest: "--callers --turns files", _series: "variable --bot files", _film: "--step --variable files",
     _draw: "--variable files", _json: "files", _sweep: "call --jobs --seconds files"}
 
-
 def _parser() -> argparse.ArgumentParser:
     parser = argparse.ArgumentParser(prog="python3 -m pogyawin", description="Helps authors of amoebot algorithms.")
     commands = parser.add_subparsers(required=True, metavar="COMMAND")
@@ -133,7 +122,6 @@ def _parser() -> argparse.ArgumentParser:
         for word in words.split():
             command.add_argument(word, help=_WORDS[word][0], **_WORDS[word][1])
     return parser
-
 
 if __name__ == "__main__":
     sys.exit(main())

@@ -14,12 +14,10 @@ from .tokens import Tokens, Unread, section, tokens_of
 
 _WORD_OR_COMMENT = re.compile(r"#[^\n]*|[A-Za-z_][A-Za-z0-9_]*")
 
-
 @dataclass(frozen=True)
 class Program:
     """A program: `text` goes from the word `program` up to its `end`, as it was written.
     `Program("program var lit 1 end").variables == {"lit": 1}`"""
-
     text: str
 
     @classmethod
@@ -57,13 +55,11 @@ class Program:
             raise LookupError(f"the program has no variable {variable}; it has {', '.join(names) or 'none'}")
         return names.index(variable)
 
-
 @dataclass(frozen=True)
 class Document:
     """A document of any form. Its `str` is its text: the program as it was written, and each other section as the
     program of this repository writes it. Nothing is judged here, but in each call.
     `str(Document(Program("program\\nend"), version=1)) == "amoebot 1\\nprogram\\nend\\n"`"""
-
     program: Program
     shape: Optional[Shape] = None
     lists: Optional[Lists] = None

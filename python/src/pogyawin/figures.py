@@ -6,7 +6,6 @@ T = TypeVar("T")
 Node = Tuple[int, int]
 DIRECTIONS = ((1, 0), (0, 1), (-1, 1), (-1, 0), (0, -1), (1, -1))
 
-
 class Draws:
     """Draws whole numbers from a seed, which is a whole number, by PCG32 (M. E. O'Neill, 2014). `Draws(7).below(6) == Draws(7).below(6)`"""
 
@@ -35,16 +34,13 @@ class Draws:
             mixed[last], mixed[other] = mixed[other], mixed[last]
         return mixed
 
-
 def neighbours(node: Node) -> List[Node]:
     """The six nodes around a node, by direction. `neighbours((2, 3))[2] == (1, 4)`"""
     return [(node[0] + x, node[1] + y) for x, y in DIRECTIONS]
 
-
 def row(count: int) -> List[Node]:
     """So many nodes in direction 0. `row(3) == [(0, 0), (1, 0), (2, 0)]`"""
     return [(x, 0) for x in range(count)]
-
 
 def ring(radius: int) -> List[Node]:
     """The nodes at that distance from (0, 0), which is not in it, one after another. `len(ring(2)) == 12`"""
@@ -55,31 +51,25 @@ def ring(radius: int) -> List[Node]:
             node = (node[0] + x, node[1] + y)
     return nodes
 
-
 def hexagon(radius: int) -> List[Node]:
     """All nodes up to that distance from (0, 0), ring by ring. `len(hexagon(2)) == 19`"""
     return [node for each in range(radius + 1) for node in ring(each)]
-
 
 def parallelogram(width: int, height: int) -> List[Node]:
     """So many rows of so many nodes. `parallelogram(2, 2) == [(0, 0), (1, 0), (0, 1), (1, 1)]`"""
     return [(x, y) for y in range(height) for x in range(width)]
 
-
 def triangle(side: int) -> List[Node]:
     """A triangle with so many nodes on each side, row by row. `triangle(2) == [(0, 0), (1, 0), (0, 1)]`"""
     return [(x, y) for y in range(side) for x in range(side - y)]
-
 
 def blob(count: int, seed: int) -> List[Node]:
     """So many connected nodes: each next one is a neighbour of those before, which the seed draws. `len(blob(50, 1)) == 50`"""
     return _grown(count, seed, 6)
 
-
 def tree(count: int, seed: int) -> List[Node]:
     """The same where each next one has just one neighbour before it, so there is no cycle. `len(tree(50, 1)) == 50`"""
     return _grown(count, seed, 1)
-
 
 def with_holes(nodes: Iterable[Node], count: int, seed: int) -> List[Node]:
     """The nodes without so many that the seed draws, each with six neighbours that stay. So it stays connected.
@@ -95,7 +85,6 @@ def with_holes(nodes: Iterable[Node], count: int, seed: int) -> List[Node]:
         there.remove(node)
     return kept
 
-
 def around(nodes: Iterable[Node], distance: int = 1) -> List[Node]:
     """The nodes outside at that distance from the nearest one, for walls round a shape. `len(around(row(1))) == 6`"""
     there = set(nodes)
@@ -106,28 +95,27 @@ def around(nodes: Iterable[Node], distance: int = 1) -> List[Node]:
         near |= newest
     return sorted(newest & outside)
 
-
 def inside(nodes: Iterable[Node]) -> List[Node]:
     """The nodes that they enclose, for walls inside a shape. `inside(ring(1)) == [(0, 0)]`"""
     there = set(nodes)
-    xs, ys = [x for x, _ in there], [y for _, y in there]
-    box = {(x, y) for x in range(min(xs), max(xs) + 1) for y in range(min(ys), max(ys) + 1)}
-    return sorted(box - there - _outside(there, 1))
+    return sorted(_box(there, 1) - there - _outside(there, 1))
 
+def _box(there: Set[Node], margin: int) -> Set[Node]:
+    xs, ys = zip(*there)
+    return {(x, y) for x in range(min(xs) - margin, max(xs) + margin + 1)
+            for y in range(min(ys) - margin, max(ys) + margin + 1)}
 
 def _outside(there: Set[Node], margin: int) -> Set[Node]:
-    """The nodes that are reached from far away without those that are there, up to so many beside them."""
-    xs, ys = [x for x, _ in there], [y for _, y in there]
-    columns = range(min(xs) - margin, max(xs) + margin + 1)
-    rows = range(min(ys) - margin, max(ys) + margin + 1)
-    reached, todo = set(), [(columns[0], rows[0])]
+    """The nodes up to so many beside them that are reached from far away, from the corner of the box."""
+    free, reached = _box(there, margin) - there, set()
+    todo = [min(free)]
     while todo:
         node = todo.pop()
-        if node not in reached and node not in there and node[0] in columns and node[1] in rows:
+        if node in free:
+            free.remove(node)
             reached.add(node)
             todo += neighbours(node)
     return reached
-
 
 def _grown(count: int, seed: int, most: int) -> List[Node]:
     """Connected nodes, each of which had 1 to `most` neighbours among those before it."""

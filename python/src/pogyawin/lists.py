@@ -9,16 +9,11 @@ from .figures import Draws
 from .shape import Shape
 from .tokens import Tokens, section
 
-MOST_TURNS = 65_536
-TURNS_OF_EACH = 16
-
-
 @dataclass(frozen=True)
 class Lists:
     """How many turns each caller has, and the amoebots of each, which it goes through again and again.
     Where `turns` is None below, they are 16 for each amoebot of the longest list, and 65,536 in all at most.
     `str(Lists(6, ((2, 1, 0),))) == "lists\\nturns 6\\nlist 2 1 0\\nend\\n"`"""
-
     turns: int
     bots: Tuple[Tuple[int, ...], ...] = ()
 
@@ -46,12 +41,11 @@ class Lists:
     @classmethod
     def _of(cls, bots: Sequence[Sequence[int]], turns: Optional[int]) -> Lists:
         kept = tuple(tuple(each) for each in bots if each)
-        most = min(TURNS_OF_EACH * max(map(len, kept), default=0), MOST_TURNS // max(len(kept), 1))
+        most = min(16 * max(map(len, kept), default=0), 65_536 // max(len(kept), 1))
         return cls(most if turns is None else turns, kept)
 
     @classmethod
     def take(cls, tokens: Tokens) -> Lists:
-        """The lists that the tokens behind `lists` say."""
         tokens.word("turns")
         return cls(tokens.number(), tokens.items("list", Tokens.numbers))
 
@@ -63,17 +57,14 @@ class Lists:
         lists = (" ".join(map(str, ["list", *each])) for each in self.bots)
         return section("lists", f"turns {self.turns}", *lists)
 
-
 @dataclass(frozen=True)
 class Schedule:
     """Whose steps come next under `interleave`: callers, each with how many steps, or None for one.
     `str(Schedule(((0, 8), (1, None)))) == "schedule\\n0 times 8\\n1\\nend\\n"`"""
-
     steps: Tuple[Tuple[int, Optional[int]], ...] = ()
 
     @classmethod
     def take(cls, tokens: Tokens) -> Schedule:
-        """The schedule that the tokens behind `schedule` say."""
         steps: List[Tuple[int, Optional[int]]] = []
         while not tokens.has("end"):
             steps.append((tokens.number(), tokens.number() if tokens.has("times") else None))
@@ -82,7 +73,6 @@ class Schedule:
     def __str__(self) -> str:
         steps = (f"{caller}" + ("" if times is None else f" times {times}") for caller, times in self.steps)
         return section("schedule", *steps)
-
 
 def _dealt(numbers: Sequence[int], shares: Sequence[float]) -> List[Sequence[int]]:
     """The numbers in parts that follow one another, as long as these shares are to one another."""

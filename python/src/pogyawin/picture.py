@@ -9,7 +9,6 @@ from .shape import Shape
 _SHAPE = re.compile(r"(?:\A|\bend\b)\s*(?:shape|final)\b(.*?)(?=\bend\b)", re.S)
 _DIGITS = "0123456789abcdefghijklmnopqrstuvwxyz"
 
-
 def draw(shape: Shape, variable: Optional[int] = None) -> str:
     """The shape in rows that lean, each with its y before it: an amoebot is the last digit of its number, or the value of
     a variable by its place, up to 35 as a digit or letter and `*` above; a tail is `-`, and a wall is `#`.
@@ -27,7 +26,6 @@ def draw(shape: Shape, variable: Optional[int] = None) -> str:
     lines = [f"{y:5} " + " " * (y - rows[0]) + "".join(" " + drawn.get((x, y), ".") for x in columns)
              for y in reversed(rows)]
     return "\n".join([*lines, f"x from {columns[0]} to {columns[-1]}", ""])
-
 
 def last_shape(text: str) -> Optional[Shape]:
     """The last shape of a text, of which nothing else is read: a document, a part of one, or what a run wrote.

@@ -10,33 +10,26 @@ from .journal import Entry, Fate
 from .lists import Lists
 from .shape import Shape
 
-MOST_ENTRIES = 65_536  # of a document
-
-
 class Ending(Enum):
     """Why a run to rest ended: nobody is left to act; nobody acts, but some fail; or the limit of entries was reached.
     `Ending.AT_REST.value == "at rest"`"""
-
     AT_REST = "at rest"
     STUCK = "stuck"
     LIMIT = "at the limit"
-
 
 @dataclass(frozen=True)
 class Rest:
     """The end of a run to rest: the whole run as one document, which `replay` and `rounds` accept; why it ended; the
     failure of each amoebot that fails for ever; and how many runs and turns were made, the last test included.
     `run_to_rest(LIGHT.program, LIGHT.shape).failing == {}`"""
-
     document: Document
     ending: Ending
     failing: Dict[int, str]
     runs: int
     turns: int
 
-
 def run_to_rest(program: Program, shape: Shape, *, callers: int = 1, turns: Optional[int] = None,
-                entries: int = MOST_ENTRIES, version: int = 3, seconds: Optional[float] = None) -> Rest:
+                entries: int = 65_536, version: int = 3, seconds: Optional[float] = None) -> Rest:
     """Runs on from the last shape until a whole run makes no entry, and then gives each amoebot one turn by one list.
     Where that makes an entry too, it goes on. What a turn does depends on the shape alone, so none changes the end.
 

@@ -11,20 +11,16 @@ from .tokens import Tokens, section
 
 Values = Union[Sequence[int], Callable[[int], Sequence[int]]]
 
-
 class Chirality(Enum):
     """Which way round an amoebot numbers the directions: as the lattice does, or the other way.
     `Chirality("-") == Chirality.MINUS`"""
-
     PLUS = "+"
     MINUS = "-"
-
 
 @dataclass(frozen=True)
 class Area:
     """All nodes that there are: the least x and y, and how many nodes wide and high.
     `str(Area(0, -2, 8, 4)) == "area 0 -2 8 4"`"""
-
     x: int
     y: int
     width: int
@@ -33,12 +29,10 @@ class Area:
     def __str__(self) -> str:
         return f"area {self.x} {self.y} {self.width} {self.height}"
 
-
 @dataclass(frozen=True)
 class Bot:
     """An amoebot: the nodes of its head and tail, its rotation in sixths of a turn, its chirality, and the
     values of its variables in the order of the program. `str(Bot((3, 1), (2, 1), values=(5,))) == "3 1 2 1 0 + 5"`"""
-
     head: Node
     tail: Node
     rotation: int = 0
@@ -47,7 +41,6 @@ class Bot:
 
     @classmethod
     def take(cls, tokens: Tokens) -> Bot:
-        """The amoebot that the next tokens say."""
         head, tail, rotation = tokens.node(), tokens.node(), tokens.number()
         return cls(head, tail, rotation, Chirality(tokens.word("+", "-")), tokens.numbers())
 
@@ -59,12 +52,10 @@ class Bot:
         """Whether it stands on two nodes."""
         return self.head != self.tail
 
-
 @dataclass(frozen=True)
 class Shape:
     """An area with walls and amoebots, which are numbered from 0. Its `str` is a section `shape`.
     `str(Shape.of([(0, 0)])) == "shape\\narea -1 -1 3 3\\nbot 0 0 0 0 0 +\\nend\\n"`"""
-
     area: Area
     bots: Tuple[Bot, ...] = ()
     walls: Tuple[Node, ...] = ()
@@ -90,7 +81,6 @@ class Shape:
 
     @classmethod
     def take(cls, tokens: Tokens) -> Shape:
-        """The shape that the tokens behind the word of its section say."""
         tokens.word("area")
         area, walls = Area(*tokens.node(), tokens.number(), tokens.number()), []
         while tokens.has("wall"):

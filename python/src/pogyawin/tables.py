@@ -12,12 +12,10 @@ from .document import Document
 from .journal import Fate
 from .shape import Bot
 
-
 @dataclass(frozen=True)
 class Table:
     """Names of columns, and rows of values. Its `str` has columns of one width.
     `Table(("size", "rounds"), ((2, 1),)).to_csv() == "size,rounds\\n2,1\\n"`"""
-
     columns: Tuple[str, ...]
     rows: Tuple[Tuple[object, ...], ...]
 
@@ -37,7 +35,6 @@ class Table:
         widths = [max(map(len, column)) for column in zip(*cells)]
         return "\n".join("  ".join(cell.rjust(width) for cell, width in zip(row, widths)) for row in cells)
 
-
 def series(document: Document, variable: str = "", bot: Optional[int] = None, **counts: Callable[[Bot], bool]) -> Table:
     """At each place how many amoebots have each value of a variable, or the value of one amoebot by its number; and how
     many meet each condition. Raises `LookupError` for a name that is no variable.
@@ -50,7 +47,6 @@ def series(document: Document, variable: str = "", bot: Optional[int] = None, **
         rows.append((place, *(shape.bots[bot or 0].values[at] for _ in one), *(there[value] for value in values),
                      *(sum(map(bool, map(condition, shape.bots))) for condition in counts.values())))
     return Table(("place", *one, *(f"{variable} {value}" for value in values), *counts), tuple(rows))
-
 
 def rounds_after(document: Document, *, seconds: Optional[float] = None) -> List[int]:
     """How many rounds have ended by each place. It asks `rounds` about fronts of the journal, halving: for R rounds and
@@ -68,7 +64,6 @@ def rounds_after(document: Document, *, seconds: Optional[float] = None) -> List
     end = len(document.journal or ())
     return between(0, end, at(0), at(end)) + [at(end)]
 
-
 def failures(document: Document) -> Table:
     """How many turns failed with each failure, and the place, the caller, the turn and the amoebot of the first one.
     Raises `ValueError` for a document without lists. `failures(run(LIGHT)).rows == ()`"""
@@ -81,14 +76,12 @@ def failures(document: Document) -> Table:
     return Table(("failure", "turns", "place", "caller", "turn", "bot"), tuple(
         (why, often[why], *first[why], document.lists.bot_of(*first[why][1:])) for why in often))
 
-
 def entries(document: Document) -> Table:
     """The entries of a journal, each with the name of its action. `entries(run(LIGHT)).rows[0] == (0, 0, 1, 1, "light", "none")`"""
     actions = document.program.actions
     return Table(("place", "caller", "turn", "bot", "action", "move"), tuple(
         (entry.place, entry.caller, entry.turn, entry.bot, actions[entry.action], entry.move)
         for entry in document.journal or ()))
-
 
 def to_json(document: Document, indent: Optional[int] = None) -> str:
     """The document as one object of JSON, with the variables and actions in their order. Fields are as in the classes;
