@@ -1,9 +1,12 @@
 """Calls of the program, and how they may end."""
 
+import json
 import os
 import pathlib
 import pickle
+import re
 import tempfile
+import types
 import unittest
 from dataclasses import replace
 from unittest import mock
@@ -58,9 +61,9 @@ class Endings(unittest.TestCase):
     """Each status has its exception. A stand-in for the program ends with it."""
 
     def stand_in(self, body):
-        folder = pathlib.Path(self.enterContext(tempfile.TemporaryDirectory())
-                              if hasattr(self, "enterContext") else tempfile.mkdtemp())
-        file = folder / "amoebot"
+        folder = tempfile.TemporaryDirectory()
+        self.addCleanup(folder.cleanup)
+        file = pathlib.Path(folder.name, "amoebot")
         file.write_text(f"#!/bin/sh\n[ $# -gt 0 ] || exit 2\n{body}\n")
         file.chmod(0o755)
         return mock.patch.dict(os.environ, AMOEBOT=str(file))
@@ -82,11 +85,10 @@ class Endings(unittest.TestCase):
         self.assertIn("0.2", str(ended.exception))
 
     def test_no_program(self):
-        for name in ("/nowhere/amoebot", "/bin/true", ""):
-            if name:
-                with self.subTest(name), mock.patch.dict(os.environ, AMOEBOT=name), self.assertRaises(pogyawin.NoProgram) as none:
-                    call("check", text="amoebot 1 program end")
-                self.assertIn(name, str(none.exception))
+        for name in ("/nowhere/amoebot", "/bin/true"):
+            with self.subTest(name), mock.patch.dict(os.environ, AMOEBOT=name), self.assertRaises(pogyawin.NoProgram) as none:
+                call("check", text="amoebot 1 program end")
+            self.assertIn(name, str(none.exception))
 
     def test_exceptions_can_be_sent(self):
         for error in (Refused(5, "BadByte"), Differs(3), pogyawin.TimedOut(2.5), pogyawin.OutOfMemory()):
@@ -95,25 +97,35 @@ class Endings(unittest.TestCase):
 
 
 class Docstrings(unittest.TestCase):
-    """Each public name has a docstring with an example, and each example is true."""
+    """Each public name has a docstring with an example, each public method too, and each example is true."""
 
     def test_examples(self):
-        import json
-        import re
-        names = {**vars(pogyawin), "json": json, "os": os, "replace": replace, "LIGHT": LIGHT}
-        for module in ("tokens", "status", "calls"):
-            names.update(vars(__import__(f"pogyawin.{module}", fromlist=["x"])))
+        ring = pogyawin.Document.parse(example("elect_ring"))
+        names = {**vars(pogyawin), "json": json, "os": os, "replace": replace, "LIGHT": LIGHT, "RING": ring}
+        for module in (pogyawin.status, pogyawin.tokens):
+            names.update(vars(module))
         tried = 0
+        for name, value in self.public():
+            with self.subTest(name):
+                examples = [each for each in value.__doc__.split("`")[1::2] if re.search(r" == |^\w.*\(.*\)$", each)]
+                self.assertTrue(examples, f"{name} has no example")
+                for each in examples:
+                    tried += 1
+                    self.assertTrue(eval(each, dict(names)), each)
+        self.assertGreater(tried, 70)
+
+    def public(self):
+        """The public names of the package, and the public methods of its classes that say what they do."""
+        internal = {"Tokens": None}
         for name in pogyawin.__all__:
             value = getattr(pogyawin, name)
-            if callable(value) and type(value).__module__ != "typing":
-                with self.subTest(name):
-                    examples = [each for each in value.__doc__.split("`")[1::2] if re.search(r" == |^\w.*\(.*\)$", each)]
-                    self.assertTrue(examples, f"{name} has no example")
-                    for each in examples:
-                        self.assertTrue(eval(each, dict(names)), each)
-                        tried += 1
-        self.assertGreater(tried, 50)
+            if not callable(value) or type(value).__module__ == "typing":
+                continue
+            yield name, value
+            for method, function in vars(value).items() if isinstance(value, type) and name not in internal else ():
+                function = getattr(function, "__func__", getattr(function, "fget", function))
+                if isinstance(function, types.FunctionType) and method[0] != "_" and method not in ("take", "to_frame"):
+                    yield f"{name}.{method}", function
 
 
 if __name__ == "__main__":

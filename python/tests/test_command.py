@@ -59,10 +59,10 @@ class Commands(unittest.TestCase):
 
     def test_draw(self):
         text = str(run(LIGHT))
-        picture = "    4     . . . . .\n    3    . {} .\n    2   . . . . .\nx from 1 to 5\n".replace("    4     ", "    4     ")
-        self.assertEqual(asked("draw", text=text)[1].splitlines()[1].split(), ["3", ".", "0", "1", "2", "."])
-        self.assertEqual(asked("draw", text=text.replace("\n", "\r\n")), asked("draw", text=text))
-        self.assertEqual(asked("draw", "--variable", "lit", text=str(LIGHT))[1].splitlines()[1].split(), ["3", ".", "1", "0", "0", "."])
+        picture = "    4     . . . . .\n    3    . {} .\n    2   . . . . .\nx from 1 to 5\n"
+        self.assertEqual(asked("draw", text=text)[1], picture.format("0 1 2"))
+        self.assertEqual(asked("draw", text=text.replace("\n", "\r\n"))[1], picture.format("0 1 2"))
+        self.assertEqual(asked("draw", "--variable", "lit", text=str(LIGHT))[1], picture.format("1 0 0"))
         for line, status in (("refused 6 Unexpected\n", 3), ("differs 3\n", 7)):
             self.assertEqual(asked("draw", text=line), (status, "", line))
         self.assertEqual(asked("draw", "--variable", "lot", text=text)[0], 1)

@@ -84,8 +84,8 @@ class Values(unittest.TestCase):
         self.assertEqual([str(mark) for mark in marks], list(texts))
 
     def test_comments_blanks_and_names(self):
-        text = "# end program\ramoebot\t02 # program\nprogram var end_ 3\r\nvar to 4 end#shape\nshape area - 1 0 8 8\nbot 1 1 1 1 0+2 04 end"
-        document = read(text.replace("\ramoebot", "\namoebot"))
+        text = "# program var end_ 3 end\namoebot\t02 # program\nprogram var end_ 3\r\nvar to 4 end#shape\n"
+        document = read(text + "shape area - 1 0 8 8\nbot 1 1 1 1 0+2 04 end")
         self.assertEqual((document.version, document.program.variables), (2, {"end_": 3, "to": 4}))
         self.assertEqual(document.shape.bots[0].values, (2, 4))
         self.assertEqual(document.shape.area.x, -1)

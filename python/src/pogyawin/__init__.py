@@ -1,6 +1,7 @@
 """A companion for authors of amoebot algorithms: documents as values, calls, shapes, runs to rest, series and sweeps.
 
-The program reads and judges each text, and this package has no rules of its own. docs/GUIDE.md has a first table.
+The program judges each text, and this package has no rules of its own. docs/GUIDE.md leads to a first table.
+In the examples of docstrings LIGHT and RING are the documents `light_run` and `elect_ring` of examples/.
 """
 
 from .calls import (Election, Measures, Rounds, call, check, elect, executable, interleave, measure, read, renew, replay, rewind,

@@ -100,7 +100,7 @@ def rounds(document: Document, *, seconds: Optional[float] = None) -> Rounds:
     return Rounds(int(answer["rounds"]), int(answer["waiting"]))
 
 def elect(document: Document, *, seconds: Optional[float] = None) -> Election:
-    """Who leads behind a run of `erosion`; another program is `Refused`. `callable(elect)`"""
+    """Who leads behind a run of `erosion`; another program is `Refused`. `elect(RING) == Election(6, None)`"""
     answer = _answer(call("elect", text=str(document), seconds=seconds))
     return Election(int(answer["candidates"]), None if answer["leader"] == "none" else int(answer["leader"]))
 

@@ -22,34 +22,26 @@ class Program:
 
     @classmethod
     def parse(cls, text: str) -> Program:
-        """The program of a text with other sections round it. Raises `Unread` where there is none."""
-        begin = -1
-        for word in _WORD_OR_COMMENT.finditer(text):
-            if word.group() == "program" and begin < 0:
-                begin = word.start()
-            elif word.group() == "end":
-                if begin >= 0:
-                    return cls(text[begin:word.end()])
-                break
-        raise Unread("there is no program up to its end")
+        """The program of a text with other sections round it, else `Unread`. `Program.parse(str(LIGHT)) == LIGHT.program`"""
+        return cls(text[_place_of_program(text)])
 
     def __str__(self) -> str:
         return self.text + "\n"
 
     @property
     def variables(self) -> Dict[str, int]:
-        """The largest value of each variable by its name, in the order of the values of an amoebot."""
+        """The largest value of each variable, in the order of the values of an amoebot. `LIGHT.program.variables == {"lit": 1}`"""
         words = list(tokens_of(self.text))
         return {words[at + 1]: int(words[at + 2]) for at, word in enumerate(words) if word == "var"}
 
     @property
     def actions(self) -> Tuple[str, ...]:
-        """The names of the actions; an entry of a journal has the place of its action here, from 0 on."""
+        """The names of the actions; an entry has the place of its action here, from 0 on. `LIGHT.program.actions == ("light",)`"""
         words = list(tokens_of(self.text))
         return tuple(words[at + 1] for at, word in enumerate(words) if word == "action")
 
     def number_of(self, variable: str) -> int:
-        """The place of a variable, from 0 on. Raises `LookupError` for a name that is none."""
+        """The place of a variable, from 0 on, else `LookupError`. `LIGHT.program.number_of("lit") == 0`"""
         names = list(self.variables)
         if variable not in names:
             raise LookupError(f"the program has no variable {variable}; it has {', '.join(names) or 'none'}")
@@ -71,15 +63,14 @@ class Document:
 
     @classmethod
     def parse(cls, text: str) -> Document:
-        """The document of a text that is known to be one. Raises `Unread`; `read` judges a text too."""
-        program = Program.parse(text)
-        front, _, rest = text.partition(program.text)
-        header = Tokens(front)
+        """The document of a text that is known to be one, else `Unread`; `read` judges too. `Document.parse(str(LIGHT)) == LIGHT`"""
+        place = _place_of_program(text)
+        header = Tokens(text[:place.start])
         header.word("amoebot")
-        return cls(program, version=header.number()).with_sections(rest)
+        return cls(Program(text[place]), version=header.number()).with_sections(text[place.stop:])
 
     def with_sections(self, text: str) -> Document:
-        """This document with the sections of a text, such as what a run wrote. Raises `Unread`."""
+        """This document with the sections of a text, such as what a run wrote, else `Unread`. `LIGHT.with_sections("") == LIGHT`"""
         tokens, read = Tokens(text), self
         readers: Dict[str, Callable[[Tokens], Any]] = {
             "shape": Shape.take, "lists": Lists.take, "schedule": Schedule.take, "final": Shape.take,
@@ -91,7 +82,7 @@ class Document:
         return read
 
     def without_report(self) -> Document:
-        """This document without its journal, last shape and marks."""
+        """This document without its journal, last shape and marks. `run(LIGHT).without_report() == LIGHT`"""
         return replace(self, journal=None, final=None, turns=None)
 
     def __str__(self) -> str:
@@ -104,7 +95,7 @@ class Document:
     def shapes(self) -> Iterator[Shape]:
         """The shape at each place, forwards: `shape`, and then the one behind each entry. Old values have to be what
         is there, else it raises `Differs` with the place. All else of the journal is believed: `replay` judges it.
-        Raises `ValueError` where there is no shape."""
+        Raises `ValueError` where there is no shape. `list(run(LIGHT).shapes())[2] == run(LIGHT).final`"""
         if self.shape is None:
             raise ValueError("the document has no shape")
         shape, bots = self.shape, list(self.shape.bots)
@@ -120,9 +111,19 @@ class Document:
 
     def until(self, place: int) -> Document:
         """The document with its first `place` entries, the shape behind them, and no marks.
-        Raises `IndexError` where there are fewer entries."""
+        Raises `IndexError` where there are fewer entries. `len(run(LIGHT).until(1).journal) == 1`"""
         part = replace(self, journal=(self.journal or ())[:place], turns=None)
-        *_, final = part.shapes()
+        for final in part.shapes():
+            pass
         if place != len(part.journal or ()):
             raise IndexError(f"there is no place {place}: the journal has {len(self.journal or ())} entries")
         return replace(part, final=final)
+
+def _place_of_program(text: str) -> slice:
+    begin = -1
+    for word in _WORD_OR_COMMENT.finditer(text):
+        if word.group() == "program" and begin < 0:
+            begin = word.start()
+        elif word.group() == "end" and begin >= 0:
+            return slice(begin, word.end())
+    raise Unread("there is no program up to its end")

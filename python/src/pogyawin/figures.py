@@ -7,7 +7,8 @@ Node = Tuple[int, int]
 DIRECTIONS = ((1, 0), (0, 1), (-1, 1), (-1, 0), (0, -1), (1, -1))
 
 class Draws:
-    """Draws whole numbers from a seed, which is a whole number, by PCG32 (M. E. O'Neill, 2014). `Draws(7).below(6) == Draws(7).below(6)`"""
+    """Draws whole numbers from a seed, which is a whole number, by PCG32 (M. E. O'Neill).
+    `Draws(7).below(6) == Draws(7).below(6)`"""
 
     def __init__(self, seed: int, sequence: int = 54) -> None:
         self._state, self._step = 0, (sequence << 1 | 1) % 2**64
@@ -16,18 +17,18 @@ class Draws:
         self.word()
 
     def word(self) -> int:
-        """The next number of 32 bits."""
+        """The next number of 32 bits. `Draws(42).word() == 0xA15C02B7`"""
         state = self._state
         self._state = (state * 6364136223846793005 + self._step) % 2**64
         mixed, turns = ((state >> 18 ^ state) >> 27) % 2**32, state >> 59
         return (mixed >> turns | mixed << (-turns & 31)) % 2**32
 
     def below(self, bound: int) -> int:
-        """The next number from 0 to `bound` - 1, where `bound` is at most 2 ** 32."""
+        """The next number from 0 to `bound` - 1, where `bound` is at most 2 ** 32. `Draws(7).below(1) == 0`"""
         return self.word() * bound >> 32
 
     def shuffled(self, items: Iterable[T]) -> List[T]:
-        """The same items in an order that is drawn."""
+        """The same items in an order that is drawn. `sorted(Draws(7).shuffled("cab")) == ["a", "b", "c"]`"""
         mixed = list(items)
         for last in range(len(mixed) - 1, 0, -1):
             other = self.below(last + 1)

@@ -19,23 +19,23 @@ class Lists:
 
     @classmethod
     def of_all(cls, shape: Shape, turns: Optional[int] = None) -> Lists:
-        """One list of all amoebots, by their numbers."""
+        """One list of all amoebots, by their numbers. `Lists.of_all(LIGHT.shape, 9) == Lists(9, ((0, 1, 2),))`"""
         return cls._of([range(len(shape.bots))], turns)
 
     @classmethod
     def by_place(cls, shape: Shape, callers: int, turns: Optional[int] = None) -> Lists:
-        """So many lists of nearly one length, each of neighbours: by x and then y of their heads."""
+        """So many lists of nearly one length, by x and then y of the heads. `Lists.by_place(LIGHT.shape, 2).bots == ((0, 1), (2,))`"""
         return cls.by_shares(shape, [1] * callers, turns)
 
     @classmethod
     def by_shares(cls, shape: Shape, shares: Sequence[float], turns: Optional[int] = None) -> Lists:
-        """The same with lists as long as these shares are to one another; `[1, 2]` gives a third and the rest."""
+        """Lists by place, as long as these shares are to one another. `Lists.by_shares(LIGHT.shape, [1, 2]).bots == ((0,), (1, 2))`"""
         placed = sorted(range(len(shape.bots)), key=lambda number: (*shape.bots[number].head, number))
         return cls._of(_dealt(placed, shares), turns)
 
     @classmethod
     def by_draw(cls, shape: Shape, callers: int, seed: int, turns: Optional[int] = None) -> Lists:
-        """So many lists of nearly one length, in an order that a seed draws."""
+        """So many lists of nearly one length, in an order that a seed draws. `len(Lists.by_draw(LIGHT.shape, 3, seed=1).bots) == 3`"""
         return cls._of(_dealt(Draws(seed).shuffled(range(len(shape.bots))), [1] * callers), turns)
 
     @classmethod
@@ -50,7 +50,7 @@ class Lists:
         return cls(tokens.number(), tokens.items("list", Tokens.numbers))
 
     def bot_of(self, caller: int, turn: int) -> int:
-        """The amoebot that has this turn of this caller."""
+        """The amoebot that has this turn of this caller. `LIGHT.lists.bot_of(0, 4) == 1`"""
         return self.bots[caller][turn % len(self.bots[caller])]
 
     def __str__(self) -> str:

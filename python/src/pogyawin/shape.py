@@ -49,7 +49,7 @@ class Bot:
 
     @property
     def expanded(self) -> bool:
-        """Whether it stands on two nodes."""
+        """Whether it stands on two nodes. `Bot((1, 0), (0, 0)).expanded == True`"""
         return self.head != self.tail
 
 @dataclass(frozen=True)
@@ -64,7 +64,7 @@ class Shape:
     def of(cls, nodes: Iterable[Node], *, values: Values = (), walls: Iterable[Node] = (), margin: int = 1) -> Shape:
         """Contracted amoebots on these nodes, in their order. `values` are those of each amoebot, or a function
         from its number. The area goes on for `margin` nodes beside amoebots and walls.
-        Raises `ValueError` where there is no node."""
+        Raises `ValueError` where there is no node. `Shape.of(row(2), values=lambda bot: [bot]).bots[1].values == (1,)`"""
         bots = tuple(Bot(node, node, values=tuple(map(int, values(number) if callable(values) else values)))
                      for number, node in enumerate(nodes))
         there = tuple(sorted(walls, key=lambda node: node[::-1]))
@@ -74,7 +74,7 @@ class Shape:
 
     @classmethod
     def parse(cls, text: str) -> Shape:
-        """The shape of a text with a section `shape` or `final`. Raises `Unread` where there is none."""
+        """The shape of a section `shape` or `final`, else `Unread`. `Shape.parse(str(LIGHT.shape)) == LIGHT.shape`"""
         tokens = Tokens(text)
         tokens.word("shape", "final")
         return cls.take(tokens)
@@ -88,7 +88,7 @@ class Shape:
         return cls(area, tokens.items("bot", Bot.take), tuple(walls))
 
     def section(self, word: str) -> str:
-        """The text of the shape as a section with that word."""
+        """The text of the shape as a section with that word. `LIGHT.shape.section("final").startswith("final") == True`"""
         walls, bots = (f"wall {x} {y}" for x, y in self.walls), (f"bot {bot}" for bot in self.bots)
         return section(word, self.area, *walls, *bots)
 
@@ -96,7 +96,7 @@ class Shape:
         return self.section("shape")
 
     def turned(self, seed: int, *, mirrored: bool = True) -> Shape:
-        """The shape with a rotation for each amoebot, and if `mirrored` a chirality, which a seed draws."""
+        """The shape with rotations, and if `mirrored` chiralities, which a seed draws. `LIGHT.shape.turned(5) != LIGHT.shape`"""
         draws, sides = Draws(seed), list(Chirality)
         return replace(self, bots=tuple(
             replace(bot, rotation=draws.below(6), chirality=sides[draws.below(2)] if mirrored else bot.chirality)

@@ -20,7 +20,7 @@ class Table:
     rows: Tuple[Tuple[object, ...], ...]
 
     def to_csv(self) -> str:
-        """The table as comma-separated values, with the names first."""
+        """The table as comma-separated values, with the names first. `Table(("a",), ((1,),)).to_csv() == "a\\n1\\n"`"""
         text = io.StringIO()
         csv.writer(text, lineterminator="\n").writerows([self.columns, *self.rows])
         return text.getvalue()
