@@ -107,7 +107,7 @@ class Docstrings(unittest.TestCase):
         tried = 0
         for name, value in self.public():
             with self.subTest(name):
-                examples = [each for each in value.__doc__.split("`")[1::2] if re.search(r" == |^\w.*\(.*\)$", each)]
+                examples = [each for each in value.__doc__.split("`")[1::2] if re.search(r" [=!]= |^\w.*\(.*\)$", each)]
                 self.assertTrue(examples, f"{name} has no example")
                 for each in examples:
                     tried += 1

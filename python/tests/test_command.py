@@ -59,7 +59,7 @@ class Commands(unittest.TestCase):
 
     def test_draw(self):
         text = str(run(LIGHT))
-        picture = "    4     . . . . .\n    3    . {} .\n    2   . . . . .\nx from 1 to 5\n"
+        picture = "    4    . . . . .\n    3   . {} .\n    2  . . . . .\nx from 1 to 5\n"
         self.assertEqual(asked("draw", text=text)[1], picture.format("0 1 2"))
         self.assertEqual(asked("draw", text=text.replace("\n", "\r\n"))[1], picture.format("0 1 2"))
         self.assertEqual(asked("draw", "--variable", "lit", text=str(LIGHT))[1], picture.format("1 0 0"))
