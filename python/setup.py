@@ -1,4 +1,4 @@
-"""Puts the program of release/ into the package that is built. All else stands in pyproject.toml."""
+"""Puts the program of release/ into the package that is built, where it can run. All else stands in pyproject.toml."""
 
 import pathlib
 import platform
@@ -8,17 +8,25 @@ import sys
 from setuptools import setup
 from setuptools.command.build_py import build_py
 
-RELEASE = pathlib.Path(__file__).resolve().parent.parent / "release" / "amoebot"
+PROGRAM = pathlib.Path(__file__).resolve().parent.parent / "release" / "amoebot"
+FITS = PROGRAM.is_file() and sys.platform == "linux" and platform.machine() == "x86_64"
 
 
 class BuildWithProgram(build_py):
-    """Copies the program where it can run: on Linux with an x86-64 processor."""
+    """Builds the package with the program in it. An editable package takes the program of the repository."""
 
-    def run(self) -> None:
+    def run(self):
+        if self.editable_mode:
+            return super().run()
+        package = pathlib.Path(self.build_lib) / "pogyawin"
+        shutil.rmtree(package, ignore_errors=True)  # what an earlier build left
         super().run()
-        fits = sys.platform == "linux" and platform.machine() == "x86_64"
-        if fits and RELEASE.is_file() and not self.editable_mode:
-            shutil.copy(RELEASE, pathlib.Path(self.build_lib) / "pogyawin" / "amoebot")
+        if FITS:
+            shutil.copy(PROGRAM, package)
 
 
-setup(cmdclass={"build_py": BuildWithProgram})
+setup(
+    cmdclass={"build_py": BuildWithProgram},
+    # A wheel with a program is one for machines of this kind.
+    options={"bdist_wheel": {"plat_name": "linux_x86_64"}} if FITS else {},
+)
