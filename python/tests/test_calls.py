@@ -70,7 +70,8 @@ class Endings(unittest.TestCase):
 
     def test_statuses(self):
         wanted = {2: pogyawin.WrongWords, 4: pogyawin.ReadFault, 5: pogyawin.WriteFault, 6: pogyawin.OutOfMemory,
-                  8: pogyawin.UnreadableWords, 9: pogyawin.NoProgram, 77: pogyawin.CallError}
+                  8: pogyawin.UnreadableWords, 9: pogyawin.NoProgram, 3: pogyawin.CallError,
+                  7: pogyawin.CallError, 77: pogyawin.CallError}
         for status, kind in wanted.items():
             with self.subTest(status), self.stand_in(f"exit {status}"), self.assertRaises(kind) as ended:
                 call("run")

@@ -80,6 +80,7 @@ class Commands(unittest.TestCase):
         self.assertEqual(asked("rest", text="amoebot 1 program")[::2], (3, "refused 1 Truncated\n"))
         self.assertEqual(asked("rest", text="amoebot 1 program end")[0], 1)
         self.assertEqual(asked("json", "/nowhere")[0], 1)
+        self.assertEqual(asked("shape", "row", "3", "4")[0], 1)
         self.assertEqual(asked("film", "--variable", "lot", text=str(LIGHT))[0], 1)
         self.assertEqual(asked("json", text=str(LIGHT), env={**os.environ, "PYTHONPATH": SOURCES, "AMOEBOT": "/nowhere"})[0], 9)
 

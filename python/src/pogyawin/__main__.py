@@ -24,7 +24,7 @@ def main(words: Optional[Sequence[str]] = None) -> int:
     except CallError as error:
         print(error, file=sys.stderr)
         return error.status
-    except (ValueError, LookupError, OSError) as error:
+    except (ValueError, TypeError, LookupError, OSError) as error:
         print(f"pogyawin: {error}", file=sys.stderr)
         return 1
 
@@ -74,7 +74,7 @@ def _json(asked: Any) -> str:
 
 def _sweep(asked: Any) -> str:
     """Makes a call for each file, and writes the answers as CSV. What a run makes of FILE goes to FILE.run."""
-    def answer(file: str) -> object:
+    def of_file(file: str) -> object:
         answer = getattr(calls, asked.call)(calls.read(pathlib.Path(file).read_bytes()), seconds=asked.seconds)
         if not isinstance(answer, Document):
             return answer
@@ -82,13 +82,13 @@ def _sweep(asked: Any) -> str:
         return len(answer.journal or ())
 
     with ThreadPoolExecutor(asked.jobs) as pool:
-        answers = sweep(answer, asked.files, pool.map)
+        answers = sweep(of_file, asked.files, pool.map)
     kinds = (type(answer).__name__ if isinstance(answer, Exception) else "" for answer in answers)
     return tables.Table(("file", "failure", "answer"), tuple(zip(asked.files, kinds, answers))).to_csv()
 
 _FIGURES = ("row", "ring", "hexagon", "parallelogram", "triangle", "blob", "tree")
 _CALLS = ("run", "tickets", "interleave", "replay", "renew", "rounds", "elect", "measure")
-_WORDS = {
+_WORDS: Dict[str, Tuple[str, Any]] = {
     "figure": ("which figure it is", {"choices": _FIGURES}),
     "size": ("its size: the nodes, the radius, the width and the height, or the side", {"type": int, "nargs": "+"}),
     "--values": ("the values of the variables of each amoebot", {"type": int, "nargs": "*", "default": []}),
@@ -107,7 +107,7 @@ _WORDS = {
     "call": ("the call", {"choices": _CALLS}),
     "--jobs": ("how many calls at once", {"type": int, "default": 1}),
     "--seconds": ("the limit of a call", {"type": float}),
-    "files": ("parts of a document; without one, standard input", {"nargs": "*"})}  # type: Dict[str, Tuple[str, Any]]
+    "files": ("parts of a document; without one, standard input", {"nargs": "*"})}
 _COMMANDS: Dict[Callable[[Any], str], str] = {
     _shape: "figure size --values --first --walls --turned --seed --holes --margin --callers --turns",
     _rest: "--callers --turns files", _series: "variable --bot files", _film: "--step --variable files",

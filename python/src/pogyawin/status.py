@@ -64,4 +64,4 @@ def error_of(status: int, text: str) -> CallError:
     if words[:1] in (["refused"], ["differs"]):
         return Refused(int(words[1]), words[2]) if words[0] == "refused" else Differs(int(words[1]))
     known = CallError.of_status.get(status)
-    return known() if known else CallError(status)
+    return known() if known and status not in (Refused.status, Differs.status) else CallError(status)
