@@ -59,4 +59,5 @@ pub record EndsRight {D : Type 0} (verdict : D → Shown → Verdict) (z : Terms
     (seats : List (Option (Token D))) (world : Config) (journal : Kept) : Type 0 where
   pub run : Run (verdict z.decider) z.world journal.entries world
   pub order : Order z.lists journal.entries
-  pub marks : AreMarks SoFar (verdict z.decider) z.world z.lists journal.entries (report_of z seats world journal).turns
+  pub marks : AreMarks SoFar (verdict z.decider) z.world z.lists journal.entries
+      (report_of z seats world journal).turns
