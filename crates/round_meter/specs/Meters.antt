@@ -87,13 +87,15 @@ pub record GoesOnWith (f : Shown → Verdict) (e : Entry) (old new : Metered) : 
 abbrev pub GoesOnIn : {E : Type 0} → (Entry → E) → (Shown → Verdict) → E → Metered → Metered → Type 0
 GoesOnIn form f told old new = InForm form (λ (e : Entry). GoesOnWith f e old new) told
 
--- What a call leaves that feeds a meter: the meter goes on, or its world has no such step and it stays.
+-- What a call leaves that feeds a meter.
+-- The meter goes on, or its world has no such step and it stays.
 pub record IsFed {A D : Type 0} (GoesOn : Metered → Metered → Type 0) (HasNoStep : Config → Type 0)
     (old new : MeterOf D) (result : Result A Differs) : Type 0 where
   pub goes_on : OnOk result (GoesOn old.state new.state)
   pub fed : OnOk result (new.state.fed ≡ old.state.fed + 1)
   pub size : length new.state.world.bots ≡ length old.state.world.bots
-  pub differs : IfErr result (λ (e : Differs). (e.place ≡ old.state.fed) × HasNoStep old.state.world × (new ≡ old))
+  pub differs : IfErr result (λ (e : Differs).
+      (e.place ≡ old.state.fed) × HasNoStep old.state.world × (new ≡ old))
   pub decider : new.decider ≡ old.decider
 
 -- Two meters tell the same of a run and its rounds, and of each amoebot whether it is enabled, and whether it waits.

@@ -58,7 +58,8 @@ impl<'d, D: Decider> Meter<'d, D> {
         requires there { entry.now.bot < length self.old.state.world.bots }
         requires few { self.old.state.fed + 1 < 2 ^ 32 }
         ensures { IsFed (GoesOnWith (D.verdict self.old.decider) entry.now)
-            (λ world. IsNoStep full_entry (D.verdict self.old.decider) world entry.now) self.old self.new result }
+            (λ world. IsNoStep full_entry (D.verdict self.old.decider) world entry.now)
+            self.old self.new result }
     {
         self.feed_in(entry)
     }
@@ -68,7 +69,8 @@ impl<'d, D: Decider> Meter<'d, D> {
         requires there { plain.now.bot < length self.old.state.world.bots }
         requires few { self.old.state.fed + 1 < 2 ^ 32 }
         ensures { IsFed (GoesOnIn plain_entry (D.verdict self.old.decider) plain.now)
-            (λ world. IsNoStep plain_entry (D.verdict self.old.decider) world plain.now) self.old self.new result }
+            (λ world. IsNoStep plain_entry (D.verdict self.old.decider) world plain.now)
+            self.old self.new result }
     {
         self.feed_in(plain)
     }
