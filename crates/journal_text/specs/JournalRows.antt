@@ -1,5 +1,5 @@
--- Some texts of journals without old values, of a world of 3 amoebots, a program of 2 actions and 1 variable, with their entries
--- or their first fault.
+-- Some texts of journals without old values, of a world of 3 amoebots,
+-- a program of 2 actions and 1 variable, with their entries or their first fault.
 use Rattle.std.specs.Prelude.{ℕ, ℤ, pos, negsuc, false, List, [], ◌∷◌, ◌++◌, Option, Some, None, Ok, Err, codes}
 use Rattle.text_tokens.specs.declared.refusal.RefusalKind.{RefusalKind}
 use Rattle.text_tokens.specs.declared.refusal.RefusalKind.TheVariants.{BadByte, WordTooLong, Unexpected, TooMany, Truncated, BadRange, BadEntry, BadPlace, Trailing}
@@ -29,13 +29,14 @@ YieldsEntries text entries = Says (IsPlainJournal 3 2 1) text (Ok entries)
 abbrev pub FailsAsJournal : List ℕ → ℕ → RefusalKind → Type 0
 FailsAsJournal text line kind = Says (IsPlainJournal 3 2 1) text (Err (on_line line kind))
 
--- the same of a text with an entry on line 2, of the amoebot 0, of which all but its place, its movement and its pairs is 0,
--- and what follows
+-- the same of a text with an entry on line 2, of the amoebot 0, of which all but its place,
+-- its movement and its pairs is 0, and what follows
 abbrev pub FailsInJournal : List ℕ → ℕ → RefusalKind → Type 0
 FailsInJournal text line kind = FailsAsJournal (codes "journal\nentry 0 0 0 0 0 " ++ text) line kind
 
 abbrev pub act : ℕ → ℕ → ℕ → ℕ → Moved → Pairs → PlainEntry
-act caller turn bot action moved pairs = record { caller = caller; turn = turn; bot = bot; action = action; moved = moved; patch = pairs }
+act caller turn bot action moved pairs =
+    record { caller = caller; turn = turn; bot = bot; action = action; moved = moved; patch = pairs }
 
 abbrev pub spot : ℤ → ℤ → Option ℕ → CellName × Cell
 spot x y o = (name.Spot (a_node_of x y), cell.Spot o)
@@ -58,27 +59,33 @@ nine_spots =
 
 abbrev pub ten_empty_spots : Pairs
 ten_empty_spots =
-    empty_spot ∷ empty_spot ∷ empty_spot ∷ empty_spot ∷ empty_spot ∷ empty_spot ∷ empty_spot ∷ empty_spot ∷ empty_spot
+    empty_spot ∷ empty_spot ∷ empty_spot ∷ empty_spot ∷ empty_spot
+    ∷ empty_spot ∷ empty_spot ∷ empty_spot ∷ empty_spot
     ∷ empty_spot ∷ []
 
 pub record PlainJournalsAreRead : Type 0 where
   -- ---- texts
   pub nothing : YieldsEntries (codes "journal end") []
-  pub expand : YieldsEntries (codes "journal\nentry 0 0 0 0 0 expand head 5 spot 3 3 0 body 0 3 3 2 3 5 + 255\nend\n")
-      (act 0 0 0 0 (moved.Expand (port Head 5)) (spot (pos 3) (pos 3) (Some 0) ∷ body_pair 0 (long 5 Plus (255 ∷ [])) ∷ [])
+  pub expand : YieldsEntries
+      (codes "journal\nentry 0 0 0 0 0 expand head 5 spot 3 3 0 body 0 3 3 2 3 5 + 255\nend\n")
+      (act 0 0 0 0 (moved.Expand (port Head 5))
+      (spot (pos 3) (pos 3) (Some 0) ∷ body_pair 0 (long 5 Plus (255 ∷ [])) ∷ [])
       ∷ [])
   -- the largest caller, turn, amoebot and action, and the farthest coordinates
   pub largest : YieldsEntries
-      (codes "journal entry 0 15 65535 2 1 contract tail spot -9999 9999 empty spot 0 - 1 2 body 2 3 3 2 3 0 - 0 end")
+      (codes "journal entry 0 15 65535 2 1 contract tail "
+      ++ codes "spot -9999 9999 empty spot 0 - 1 2 body 2 3 3 2 3 0 - 0 end")
       (act 15 65535 2 1 (moved.Contract Tail)
-      (spot (negsuc 9998) (pos 9999) None ∷ spot (pos 0) (negsuc 0) (Some 2) ∷ body_pair 2 (long 0 Minus (0 ∷ [])) ∷ [])
+      (spot (negsuc 9998) (pos 9999) None ∷ spot (pos 0) (negsuc 0) (Some 2)
+      ∷ body_pair 2 (long 0 Minus (0 ∷ [])) ∷ [])
       ∷ [])
   pub movements : YieldsEntries
       (codes "journal entry 0 0 0 0 0 none entry 1 0 1 0 0 push tail 0 "
       ++ codes "entry 2 0 2 0 0 pull head 3 entry 3 0 3 0 0 contract head end")
       (act 0 0 0 0 moved.None [] ∷ act 0 1 0 0 (moved.Push (port Tail 0)) []
       ∷ act 0 2 0 0 (moved.Pull (port Head 3)) [] ∷ act 0 3 0 0 (moved.Contract Head) [] ∷ [])
-  pub ten_pairs : YieldsEntries (codes "journal entry 0 0 0 0 0 none " ++ nine_spots ++ codes "spot 1 1 empty end")
+  pub ten_pairs : YieldsEntries
+      (codes "journal entry 0 0 0 0 0 none " ++ nine_spots ++ codes "spot 1 1 empty end")
       (act 0 0 0 0 moved.None ten_empty_spots ∷ [])
   -- no variable, and eight
   pub no_value : Says (IsPlainJournal 3 2 0) (codes "journal entry 0 0 0 0 0 none body 0 3 3 2 3 0 + end")
@@ -87,7 +94,8 @@ pub record PlainJournalsAreRead : Type 0 where
       (codes "journal entry 0 0 0 0 0 none body 0 3 3 2 3 0 + 1 2 3 4 5 6 7 8 end")
       (Ok (act 0 0 0 0 moved.None (body_pair 0 (long 0 Plus (1 ∷ 2 ∷ 3 ∷ 4 ∷ 5 ∷ 6 ∷ 7 ∷ 8 ∷ [])) ∷ []) ∷ []))
   -- the last entry that a journal may have
-  pub last_entry : Says (AreEntriesBy false plain_by 3 2 1 65535) (codes "entry 65535 0 0 0 0 none") (Ok (act 0 0 0 0 moved.None [] ∷ []))
+  pub last_entry : Says (AreEntriesBy false plain_by 3 2 1 65535)
+      (codes "entry 65535 0 0 0 0 none") (Ok (act 0 0 0 0 moved.None [] ∷ []))
   -- ---- numbers past their bounds
   pub direction_6 : FailsInJournal (codes "expand head\n6 end") 3 BadRange
   pub coordinate_10000 : FailsInJournal (codes "none spot 0\n10000 empty end") 3 BadRange
@@ -95,9 +103,12 @@ pub record PlainJournalsAreRead : Type 0 where
   pub coordinate_minus_10000 : FailsInJournal (codes "none spot\n-\n10000 0 empty end") 4 BadRange
   pub rotation_6 : FailsInJournal (codes "none body 0 3 3 2 3\n6 + 0 end") 3 BadRange
   pub value_256 : FailsInJournal (codes "none body 0 3 3 2 3 0 +\n256 end") 3 BadRange
-  pub eleventh_pair : FailsInJournal (codes "none " ++ nine_spots ++ codes "spot 1 1 empty\nspot 1 1 empty end") 3 TooMany
-  pub eleventh_body : FailsInJournal (codes "none " ++ nine_spots ++ codes "spot 1 1 empty\nbody 0 3 3 2 3 0 + 0 end") 3 TooMany
-  pub one_entry_too_many : Says (AreEntriesBy false plain_by 3 2 1 65535) (codes "entry 65535 0 0 0 0 none\nentry 65536 0 0 0 0 none")
+  pub eleventh_pair : FailsInJournal
+      (codes "none " ++ nine_spots ++ codes "spot 1 1 empty\nspot 1 1 empty end") 3 TooMany
+  pub eleventh_body : FailsInJournal
+      (codes "none " ++ nine_spots ++ codes "spot 1 1 empty\nbody 0 3 3 2 3 0 + 0 end") 3 TooMany
+  pub one_entry_too_many : Says (AreEntriesBy false plain_by 3 2 1 65535)
+      (codes "entry 65535 0 0 0 0 none\nentry 65536 0 0 0 0 none")
       (Err (on_line 2 TooMany))
   -- ---- entries that are judged
   pub first_place : FailsAsJournal (codes "journal\nentry\n1 0 0 0 0 none end") 2 BadPlace
@@ -115,7 +126,8 @@ pub record PlainJournalsAreRead : Type 0 where
   -- a fault within an entry comes first
   pub place_and_direction : FailsAsJournal (codes "journal\nentry 1 0 0 0 0 expand head\n6 end") 3 BadRange
   pub place_and_eleventh_pair : FailsAsJournal
-      (codes "journal\nentry 1 0 0 0 0 none " ++ nine_spots ++ codes "spot 1 1 empty\nspot 1 1 empty end") 3 TooMany
+      (codes "journal\nentry 1 0 0 0 0 none " ++ nine_spots ++ codes "spot 1 1 empty\nspot 1 1 empty end")
+      3 TooMany
   pub place_and_end_within : FailsAsJournal (codes "journal\nentry 1 0 0 0 0\n") 3 Truncated
   -- it comes before another token, a byte that begins none, a word that is too long, and the end
   pub place_before_token : FailsAsJournal (codes "journal\nentry 1 0 0 0 0 none\nfoo") 2 BadPlace
@@ -125,11 +137,14 @@ pub record PlainJournalsAreRead : Type 0 where
   pub place_before_long_number : FailsAsJournal (codes "journal\nentry 1 0 0 0 0 none\n0000000001") 2 BadPlace
   pub entry_before_end : FailsAsJournal (codes "journal\nentry 0 16 0 0 0 none\n") 2 BadEntry
   -- and before a further entry, which may be one too many
-  pub entry_before_entry : FailsAsJournal (codes "journal\nentry 0 16 0 0 0 none\nentry 0 0 0 0 0 none end") 2 BadEntry
-  pub place_before_too_many : Says (AreEntriesBy false plain_by 3 2 1 65535) (codes "entry 0 0 0 0 0 none\nentry 65536 0 0 0 0 none")
+  pub entry_before_entry : FailsAsJournal
+      (codes "journal\nentry 0 16 0 0 0 none\nentry 0 0 0 0 0 none end") 2 BadEntry
+  pub place_before_too_many : Says (AreEntriesBy false plain_by 3 2 1 65535)
+      (codes "entry 0 0 0 0 0 none\nentry 65536 0 0 0 0 none")
       (Err (on_line 1 BadPlace))
   -- but a further pair comes first
-  pub pair_behind_place : FailsAsJournal (codes "journal\nentry 1 0 0 0 0 none\nspot 10000 0 empty end") 3 BadRange
+  pub pair_behind_place : FailsAsJournal
+      (codes "journal\nentry 1 0 0 0 0 none\nspot 10000 0 empty end") 3 BadRange
   -- ---- tokens that do not belong there
   pub other_word : FailsAsJournal (codes "turns end") 1 Unexpected
   pub four_numbers : FailsAsJournal (codes "journal entry 0 0 0 0\nnone end") 2 Unexpected

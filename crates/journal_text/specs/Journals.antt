@@ -54,7 +54,8 @@ abbrev pub IsMoved : Lang Moved
 IsMoved =
     Either (Means (word (codes "none")) moved.None)
     (Either (IsMovedBy (codes "expand") moved.Expand)
-    (Either IsContracted (Either (IsMovedBy (codes "push") moved.Push) (IsMovedBy (codes "pull") moved.Pull))))
+    (Either IsContracted
+    (Either (IsMovedBy (codes "push") moved.Push) (IsMovedBy (codes "pull") moved.Pull))))
 
 -- ---- cells with their values
 
@@ -74,7 +75,8 @@ IsCellText =
     (Then (IsWord (codes "body")) (λ line. Made IsNumber (λ id. name.Body id)))
 
 abbrev pub IsOccupant : Lang Cell
-IsOccupant = Either (Means (word (codes "empty")) (cell.Spot None)) (Made IsNumber (λ id. cell.Spot (Some id)))
+IsOccupant =
+    Either (Means (word (codes "empty")) (cell.Spot None)) (Made IsNumber (λ id. cell.Spot (Some id)))
 
 -- what a cell holds: an occupant or none, or an amoebot
 abbrev pub IsValueOf : ℕ → CellName → Lang Cell
@@ -113,7 +115,8 @@ pub record Numbers : Type 0 where
   pub action : ℕ
 
 abbrev pub numbers_of : ℕ → ℕ → ℕ → ℕ → ℕ → Numbers
-numbers_of place caller turn bot action = record { place = place; caller = caller; turn = turn; bot = bot; action = action }
+numbers_of place caller turn bot action =
+    record { place = place; caller = caller; turn = turn; bot = bot; action = action }
 
 abbrev pub AreNumbers : Lang Numbers
 AreNumbers =
@@ -188,7 +191,8 @@ ids_of_change t = ids_of_name t.0 ++ (ids_of_old t.1 ++ ids_of_value t.2)
 abbrev pub named_ids : WrittenEntry → List ℕ
 named_ids w = w.bot ∷ flat_map ids_of_change w.changes
 
--- the caller and the turn are ones that there may be, and there are such an action and such amoebots
+-- the caller and the turn are ones that there may be,
+-- and there are such an action and such amoebots
 abbrev pub is_known : ℕ → ℕ → WrittenEntry → Bool
 is_known bots actions w =
     nat_le w.caller last_caller && nat_le w.turn last_turn && nat_lt w.action actions
@@ -201,13 +205,15 @@ entry_fault bots actions before w =
     then if is_known bots actions w.entry then None else Some (record { line = w.line; kind = BadEntry })
     else Some (record { line = w.line; kind = BadPlace })
 
--- ---- the section, of a world of so many amoebots, a program of so many actions, and so many variables
+-- ---- the section, of a world of so many amoebots, a program of so many actions,
+-- and so many variables
 
 -- An entry as it is written stands for what is made of it.
 module _ {E : Type 0} (old : Bool) (make : WrittenEntry → E) (bots actions vars : ℕ) where
   -- an entry, behind so many
   abbrev pub IsEntryBy : ℕ → Lang E
-  IsEntryBy before = Made (Judged (IsWrittenEntry old vars before) (entry_fault bots actions before)) (λ w. make w.entry)
+  IsEntryBy before =
+      Made (Judged (IsWrittenEntry old vars before) (entry_fault bots actions before)) (λ w. make w.entry)
 
   abbrev pub AreEntriesBy : ℕ → Lang (List E)
   AreEntriesBy before = Repeated IsEntryBy one_more before

@@ -46,7 +46,8 @@ a_cell =
     (a_word (codes "body") >>= λ line. a_number >>= λ id. pure (name.Body id))
 
 unfoldable pub an_occupant : Reader Cell
-an_occupant = either (word (codes "empty")) (means (word (codes "empty")) (cell.Spot None)) (a_number >>= λ id. pure (cell.Spot (Some id)))
+an_occupant = either (word (codes "empty")) (means (word (codes "empty")) (cell.Spot None)) (a_number
+    >>= λ id. pure (cell.Spot (Some id)))
 
 abbrev pub a_bot_value : ℕ → Reader Cell
 a_bot_value vars = a_bot vars >>= λ b. pure (cell.Body b)
@@ -61,7 +62,8 @@ an_old_value true p = p >>= λ x. a_word (codes "to") >>= λ line. pure (Some x)
 
 unfoldable pub a_pair : Bool → ℕ → Reader WrittenChange
 a_pair old vars =
-    a_cell >>= λ c. an_old_value old (a_value vars c) >>= λ before. a_value vars c >>= λ x. pure (written_change c before x)
+    a_cell >>= λ c. an_old_value old (a_value vars c) >>= λ before.
+    a_value vars c >>= λ x. pure (written_change c before x)
 
 abbrev pub pair_in : Bool → ℕ → ℕ → Reader WrittenChange
 pair_in old vars room = limited is_cell no_limit room (a_pair old vars)
@@ -93,7 +95,8 @@ a_written_entry old vars before = do
 
 module _ {E : Type 0} (old : Bool) (make : WrittenEntry → E) (bots actions vars : ℕ) where
   unfoldable pub an_entry : ℕ → Reader E
-  an_entry before = judged (a_written_entry old vars before) (entry_fault bots actions before) >>= λ w. pure (make w.entry)
+  an_entry before =
+      judged (a_written_entry old vars before) (entry_fault bots actions before) >>= λ w. pure (make w.entry)
 
   -- entries behind so many
   unfoldable pub entries_from : ℕ → Reader (List E)
@@ -122,7 +125,8 @@ unfoldable pub placed_mark : List ℕ → Reader Nothing
 placed_mark text = a_word text >>= λ line. unheeded a_number
 
 unfoldable pub a_failed : ℕ → Reader Nothing
-a_failed version = a_word (codes "failed") >>= λ line. the_line (is_failure version) >>= λ line. unheeded a_number
+a_failed version =
+    a_word (codes "failed") >>= λ line. the_line (is_failure version) >>= λ line. unheeded a_number
 
 unfoldable pub a_claimant : Reader Nothing
 a_claimant = a_word (codes "by") >>= λ line. a_number >>= λ caller. a_number >>= λ turn. unheeded a_number
@@ -133,7 +137,8 @@ a_busy = a_word (codes "busy") >>= λ line. a_cell >>= λ c. a_claimant >>= λ u
 unfoldable pub a_mark : ℕ → Reader Nothing
 a_mark version =
     either (word (codes "done")) (placed_mark (codes "done"))
-    (either (word (codes "idle")) (placed_mark (codes "idle")) (either (word (codes "failed")) (a_failed version) a_busy))
+    (either (word (codes "idle")) (placed_mark (codes "idle"))
+    (either (word (codes "failed")) (a_failed version) a_busy))
 
 unfoldable pub a_turn : ℕ → Reader Nothing
 a_turn version = a_word (codes "turn") >>= λ line. a_number >>= λ caller. a_number >>= λ turn. a_mark version

@@ -20,7 +20,8 @@ journal_bot = long 5 Minus (1 ∷ 255 ∷ [])
 pub record TextsArePrinted : Type 0 where
   pub no_entry : plain_text 0 [] ≡ codes "journal\nend\n"
   pub entries : plain_text 2
-      (act 0 0 0 0 (moved.Expand (port Head 5)) (spot (pos 3) (pos 3) (Some 10) ∷ body_pair 10 journal_bot ∷ [])
+      (act 0 0 0 0 (moved.Expand (port Head 5))
+      (spot (pos 3) (pos 3) (Some 10) ∷ body_pair 10 journal_bot ∷ [])
       ∷ act 15 65535 4095 31 (moved.Contract Tail) (spot (negsuc 9998) (negsuc 0) None ∷ []) ∷ [])
       ≡ codes "journal\nentry 0 0 0 0 0 expand head 5 spot 3 3 10 body 10 3 3 2 3 5 - 1 255\n"
       ++ codes "entry 1 15 65535 4095 31 contract tail spot -9999 -1 empty\nend\n"
@@ -37,18 +38,22 @@ pub record TextsArePrinted : Type 0 where
   -- with old values
   pub no_change : journal_text 0 [] ≡ codes "journal\nend\n"
   pub expansion : journal_text 0 (expansion_made [] ∷ [])
-      ≡ codes "journal\nentry 0 0 0 0 0 expand head 0 spot 3 3 empty to 0 body 0 2 3 2 3 0 + to 3 3 2 3 0 +\nend\n"
+      ≡ codes "journal\nentry 0 0 0 0 0 expand head 0 spot 3 3 empty to 0 "
+      ++ codes "body 0 2 3 2 3 0 + to 3 3 2 3 0 +\nend\n"
   pub two_values : journal_text 2
       (change_act moved.None
-      (body_change_of 10 (long 0 Plus (7 ∷ [])) journal_bot ∷ spot_change (negsuc 0) (pos 3) (Some 0) None ∷ []) ∷ [])
-      ≡ codes "journal\nentry 0 0 0 0 0 none body 10 3 3 2 3 0 + 7 0 to 3 3 2 3 5 - 1 255 spot -1 3 0 to empty\nend\n"
+      (body_change_of 10 (long 0 Plus (7 ∷ [])) journal_bot
+      ∷ spot_change (negsuc 0) (pos 3) (Some 0) None ∷ []) ∷ [])
+      ≡ codes "journal\nentry 0 0 0 0 0 none body 10 3 3 2 3 0 + 7 "
+      ++ codes "0 to 3 3 2 3 5 - 1 255 spot -1 3 0 to empty\nend\n"
   pub no_turn : turns_text (record { turns = 0; marks = [] }) ≡ codes "turns\nend\n"
   -- by rising caller and then by rising turn
   pub turns : turns_text
       (record {
         turns = 3;
         marks = (mark.Done 0 ∷ mark.Idle 2 ∷ mark.Failed failure.WouldSplit 10 ∷ []) ∷ []
-            ∷ (mark.Busy (name.Spot (a_node_of (pos 3) (negsuc 2))) 0 1 2 3 ∷ mark.Busy (name.Body 7) 0 0 0 0 ∷ [])
+            ∷ (mark.Busy (name.Spot (a_node_of (pos 3) (negsuc 2))) 0 1 2 3
+            ∷ mark.Busy (name.Body 7) 0 0 0 0 ∷ [])
             ∷ [];
       })
       ≡ codes "turns\nturn 0 0 done 0\nturn 0 1 idle 2\nturn 0 2 failed would_split 10\n"

@@ -1,5 +1,5 @@
--- The texts of the sections `journal`, with old values or without them, and `turns`. An entry and a turn each have a line, whose
--- tokens have one space between them.
+-- The texts of the sections `journal`, with old values or without them, and `turns`.
+-- An entry and a turn each have a line, whose tokens have one space between them.
 use Rattle.std.specs.Prelude.{ℕ, Bool, if◌then◌else◌, List, [], ◌∷◌, ◌++◌, Option, codes, decimal, map}
 use Rattle.std.specs.List.{flat_map, enumerate_from}
 use Rattle.std.specs.declared.option.Option.TheVariants.{Some, None}
@@ -51,7 +51,8 @@ moved_words (moved.Pull p) = codes "pull" ∷ port_words p
 
 -- the number of an entry, and its caller, turn, amoebot and action
 abbrev pub entry_numbers : ℕ → WrittenEntry → Words
-entry_numbers place w = decimal place ∷ decimal w.caller ∷ decimal w.turn ∷ decimal w.bot ∷ decimal w.action ∷ []
+entry_numbers place w =
+    decimal place ∷ decimal w.caller ∷ decimal w.turn ∷ decimal w.bot ∷ decimal w.action ∷ []
 
 -- an entry with its number
 abbrev pub entry_words : ℕ → ℕ × WrittenEntry → Words
@@ -127,7 +128,8 @@ mark_words (mark.Done place) = codes "done" ∷ decimal place ∷ []
 mark_words (mark.Idle place) = codes "idle" ∷ decimal place ∷ []
 mark_words (mark.Failed f place) = codes "failed" ∷ failure_word f ∷ decimal place ∷ []
 mark_words (mark.Busy c by_caller by_turn by_bot place) =
-    codes "busy" ∷ cell_words c ++ codes "by" ∷ decimal by_caller ∷ decimal by_turn ∷ decimal by_bot ∷ codes "place"
+    codes "busy" ∷ cell_words c
+    ++ codes "by" ∷ decimal by_caller ∷ decimal by_turn ∷ decimal by_bot ∷ codes "place"
     ∷ decimal place ∷ []
 
 -- the mark of a caller's turn

@@ -27,7 +27,8 @@ pub record TurnsAreRead : Type 0 where
       ++ codes "turn 0 0 busy body 999999999 by 999999999 999999999 999999999 place 999999999\nend\n")
   pub failures : YieldsTurns
       (codes "turns turn 0 0 failed no_port 0 turn 0 0 failed no_neighbour 0 turn 0 0 failed out_of_range 0 "
-      ++ codes "turn 0 0 failed occupied 0 turn 0 0 failed not_contracted 0 turn 0 0 failed not_expanded 0 end")
+      ++ codes "turn 0 0 failed occupied 0 turn 0 0 failed not_contracted 0 "
+      ++ codes "turn 0 0 failed not_expanded 0 end")
   pub more_failures : YieldsTurns
       (codes "turns turn 0 0 failed peer_not_expanded 0 turn 0 0 failed peer_not_contracted 0 "
       ++ codes "turn 0 0 failed edge 0 turn 0 0 failed would_split 0 turn 0 0 failed no_choice 0 end")

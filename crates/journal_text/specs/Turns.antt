@@ -3,7 +3,8 @@
 --   mark    := "done" NUMBER | "idle" NUMBER | "failed" failure NUMBER | "busy" cell "by" NUMBER NUMBER NUMBER "place" NUMBER
 --   cell    := "spot" node | "body" NUMBER
 --   failure := one of the words of failures; the last one, `blocked`, only where the version may have walls
--- There is no rule on ranges but that on the coordinates of cells, and no limit on the number of turns.
+-- There is no rule on ranges but that on the coordinates of cells,
+-- and no limit on the number of turns.
 use Rattle.std.specs.Prelude.{ℕ, Bool, ◌&&◌, if◌then◌else◌, List, [], ◌∷◌, take, map, codes}
 use Rattle.std.specs.List.{list_any}
 use Rattle.std.specs.Str.{bytes_eq}
@@ -34,7 +35,8 @@ abbrev pub failure_count : ℕ → ℕ
 failure_count version = if may_have_walls version then 12 else 11
 
 unfoldable pub names_failure : ℕ → List ℕ → Bool
-names_failure version text = list_any (λ word. bytes_eq word text) (take (failure_count version) failure_words)
+names_failure version text =
+    list_any (λ word. bytes_eq word text) (take (failure_count version) failure_words)
 
 abbrev pub is_failure : ℕ → Lexeme → Bool
 is_failure version t = is_kind Word t && names_failure version t.text
@@ -46,17 +48,21 @@ abbrev pub IsPlacedMark : List ℕ → Lang Nothing
 IsPlacedMark text = Then (IsWord text) (λ line. Unheeded IsNumber)
 
 abbrev pub IsFailed : ℕ → Lang Nothing
-IsFailed version = Then (IsWord (codes "failed")) (λ line. Then (IsThe (is_failure version)) (λ line. Unheeded IsNumber))
+IsFailed version =
+    Then (IsWord (codes "failed")) (λ line. Then (IsThe (is_failure version)) (λ line. Unheeded IsNumber))
 
 -- the caller, the turn and the amoebot of a claim
 abbrev pub IsClaimant : Lang Nothing
-IsClaimant = Then (IsWord (codes "by")) (λ line. Then IsNumber (λ caller. Then IsNumber (λ turn. Unheeded IsNumber)))
+IsClaimant =
+    Then (IsWord (codes "by")) (λ line. Then IsNumber (λ caller. Then IsNumber (λ turn. Unheeded IsNumber)))
 
 abbrev pub IsBusy : Lang Nothing
-IsBusy = Then (IsWord (codes "busy")) (λ line. Then IsCellText (λ c. Then IsClaimant (λ u. IsPlacedMark (codes "place"))))
+IsBusy = Then (IsWord (codes "busy")) (λ line.
+    Then IsCellText (λ c. Then IsClaimant (λ u. IsPlacedMark (codes "place"))))
 
 abbrev pub IsMark : ℕ → Lang Nothing
-IsMark version = Either (IsPlacedMark (codes "done")) (Either (IsPlacedMark (codes "idle")) (Either (IsFailed version) IsBusy))
+IsMark version = Either (IsPlacedMark (codes "done"))
+    (Either (IsPlacedMark (codes "idle")) (Either (IsFailed version) IsBusy))
 
 -- ---- the section
 
@@ -64,7 +70,8 @@ abbrev pub is_turn : Lexeme → Bool
 is_turn = word (codes "turn")
 
 abbrev pub IsTurnLine : ℕ → Lang Nothing
-IsTurnLine version = Then (IsWord (codes "turn")) (λ line. Then IsNumber (λ caller. Then IsNumber (λ turn. IsMark version)))
+IsTurnLine version =
+    Then (IsWord (codes "turn")) (λ line. Then IsNumber (λ caller. Then IsNumber (λ turn. IsMark version)))
 
 abbrev pub as_before : Nothing → Nothing → Nothing
 as_before s u = s

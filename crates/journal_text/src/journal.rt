@@ -174,9 +174,11 @@ fn read_occupant(tokens: &mut Tokens<'_>) -> Result<Option<u32>, ReadRefusal>
     }
 }
 
-/// The occupant before and the word behind it, in texts with old values. Nothing is read in those without.
+/// The occupant before and the word behind it, in texts with old values.
+/// Nothing is read in those without.
 fn read_old_occupant(tokens: &mut Tokens<'_>, old: bool) -> Result<Option<Option<u32>>, ReadRefusal>
-    ensures { Gives (λ o. option_map cell.Spot o) (reader.an_old_value old reader.an_occupant) tokens.old result tokens.new }
+    ensures { Gives (λ o. option_map cell.Spot o)
+        (reader.an_old_value old reader.an_occupant) tokens.old result tokens.new }
 {
     if !old {
         return Ok(None);
@@ -189,7 +191,8 @@ fn read_old_occupant(tokens: &mut Tokens<'_>, old: bool) -> Result<Option<Option
 /// The same of the amoebot before.
 fn read_old_bot(tokens: &mut Tokens<'_>, old: bool, vars: u8) -> Result<Option<Bot>, ReadRefusal>
     requires { vars ≤ most_vars }
-    ensures { Gives (λ o. option_map cell.Body o) (reader.an_old_value old (reader.a_bot_value vars)) tokens.old result tokens.new }
+    ensures { Gives (λ o. option_map cell.Body o)
+        (reader.an_old_value old (reader.a_bot_value vars)) tokens.old result tokens.new }
 {
     if !old {
         return Ok(None);
@@ -233,7 +236,8 @@ fn more_pair(
     room: u32,
 ) -> Result<Option<WrittenPair>, ReadRefusal>
     requires { vars ≤ most_vars }
-    ensures reads { Gives (λ o. option_map view.pair o) (another spec.is_cell (reader.pair_in old vars room)) tokens.old result tokens.new }
+    ensures reads { Gives (λ o. option_map view.pair o)
+        (another spec.is_cell (reader.pair_in old vars room)) tokens.old result tokens.new }
     ensures room { IfOk result (λ o. IfSome o (λ _. 0 < room)) }
 {
     if !is_cell_next(tokens) {
@@ -253,7 +257,8 @@ fn read_pairs(
     found: &mut Pairs,
 ) -> Result<(), ReadRefusal>
     requires { vars ≤ most_vars }
-    ensures { Gives (λ u. map view.pair found.new.items) (reader.all_pairs old vars) tokens.old result tokens.new }
+    ensures { Gives (λ u. map view.pair found.new.items)
+        (reader.all_pairs old vars) tokens.old result tokens.new }
 {
     found.clear();
     let mut room = MOST_PAIRS as u32;
@@ -291,7 +296,8 @@ fn read_written(
     pairs: &mut Pairs,
 ) -> Result<Written, ReadRefusal>
     requires { vars ≤ most_vars }
-    ensures reads { Gives (λ w. view.entry_view w pairs.new.items) (reader.a_written_entry old vars before) tokens.old result tokens.new }
+    ensures reads { Gives (λ w. view.entry_view w pairs.new.items)
+        (reader.a_written_entry old vars before) tokens.old result tokens.new }
     ensures room { IfOk result (λ _. before < most_turns) }
 {
     let line = read_word_within(tokens, b"entry", MOST_ENTRIES, before)?;
@@ -344,7 +350,8 @@ fn body_before(before: Option<Bot>) -> Option<Cell>
 
 /// The cell with its values, if the amoebots that it names are some of so many.
 fn known_change(pair: WrittenPair, bots: u16) -> Option<(CellName, Option<Cell>, Cell)>
-    ensures { result ≡ if list_all (λ id. nat_lt id bots) (spec.ids_of_change (view.pair pair)) then Some (view.pair pair) else None }
+    ensures { result ≡ if list_all (λ id. nat_lt id bots) (spec.ids_of_change (view.pair pair))
+        then Some (view.pair pair) else None }
 {
     match pair {
         WrittenPair::Spot {
@@ -365,8 +372,8 @@ fn known_change(pair: WrittenPair, bots: u16) -> Option<(CellName, Option<Cell>,
     }
 }
 
-/// Adds the cells, at most 10, to an entry that changes none, if the amoebots that they name are some
-/// of so many.
+/// Adds the cells, at most 10, to an entry that changes none,
+/// if the amoebots that they name are some of so many.
 #[inline(never)]
 fn put_known<E: Form>(pairs: &[WrittenPair], bots: u16, entry: &mut E) -> bool
     requires few { length pairs.now ≤ most_pairs }
@@ -385,8 +392,9 @@ fn put_known<E: Form>(pairs: &[WrittenPair], bots: u16, entry: &mut E) -> bool
     true
 }
 
-/// The entry with these pairs, if its caller and turn are ones that there may be, and its action and
-/// amoebots some of so many. Else it is refused on its line.
+/// The entry with these pairs, if its caller and turn are ones that there may be,
+/// and its action and amoebots some of so many.
+/// Else it is refused on its line.
 fn known_entry<E: Form>(
     written: &Written,
     pairs: &[WrittenPair],
@@ -497,8 +505,8 @@ fn read_section<E: Form>(
     read_whole(alloc, tokens, bots, actions, vars)
 }
 
-/// Reads a journal with old values up to its `end`, of a world of so many amoebots, a program of so many actions, and so many
-/// variables, at most 8.
+/// Reads a journal with old values up to its `end`, of a world of so many amoebots,
+/// a program of so many actions, and so many variables, at most 8.
 pub fn read_journal(
     alloc: Global,
     tokens: &mut Tokens<'_>,

@@ -1,4 +1,5 @@
-//! What the grammars of the sections say of their tokens. The functions do nothing: their clauses are the laws.
+//! What the grammars of the sections say of their tokens.
+//! The functions do nothing: their clauses are the laws.
 
 ghost use Rattle.std.specs.Prelude.{ℕ};
 ghost use Rattle.text_tokens.specs.Lawful.{Exact, IsDecided};
@@ -11,16 +12,19 @@ ghost use Rattle.journal_text.specs.Rereading.{JournalsReadBack, PlainJournalsRe
 ghost use Rattle.journal_text.specs.TextRows.{TextsArePrinted};
 ghost use Rattle.journal_text.specs.Readers.{journal, plain_journal, the_turns};
 
-/// Of any tokens the grammar of a journal with old values says one thing, and its reader answers that.
+/// Of any tokens the grammar of a journal with old values says one thing,
+/// and its reader answers that.
 pub fn journal_is_decided()
-    ensures exact { (bots actions vars : ℕ) → Exact (IsJournal bots actions vars) (journal bots actions vars) }
+    ensures exact { (bots actions vars : ℕ)
+        → Exact (IsJournal bots actions vars) (journal bots actions vars) }
     ensures decided { (bots actions vars : ℕ) → IsDecided (IsJournal bots actions vars) }
     ensures read { JournalsAreRead }
 {}
 
 /// So does that of a journal without them.
 pub fn plain_journal_is_decided()
-    ensures exact { (bots actions vars : ℕ) → Exact (IsPlainJournal bots actions vars) (plain_journal bots actions vars) }
+    ensures exact { (bots actions vars : ℕ)
+        → Exact (IsPlainJournal bots actions vars) (plain_journal bots actions vars) }
     ensures decided { (bots actions vars : ℕ) → IsDecided (IsPlainJournal bots actions vars) }
     ensures read { PlainJournalsAreRead }
 {}

@@ -16,7 +16,8 @@ use node_text::{put_bot, put_node, put_port};
 use std::alloc::{AllocError, Global};
 use text_tokens::{Lines, Text};
 
-/// The section `journal` with old values: the entries, numbered from 0, with the values of so many variables, at most 8.
+/// The section `journal` with old values: the entries, numbered from 0,
+/// with the values of so many variables, at most 8.
 pub fn print_journal(alloc: Global, entries: &[Entry], vars: u8) -> Result<Text, NoMemory>
     requires { vars ≤ most_vars }
     ensures { IfOk result (λ text. text ≡ journal_text vars entries.now) }
@@ -81,7 +82,8 @@ fn put_section(lines: &mut Lines, entries: &[Entry], vars: u8, old: bool) -> Res
 
 fn put_entries(lines: &mut Lines, entries: &[Entry], vars: u8, old: bool) -> Result<(), AllocError>
     requires { vars ≤ most_vars }
-    ensures { OnOk result (lines.new ≡ lines.old ++ lines_text (written_lines vars (map (written_by old) entries.now))) }
+    ensures { OnOk result (
+        lines.new ≡ lines.old ++ lines_text (written_lines vars (map (written_by old) entries.now))) }
 {
     for (place, entry) in entries.iter().enumerate() {
         put_entry(lines, place, entry, vars, old)?;
@@ -97,7 +99,8 @@ fn put_entry(
     old: bool,
 ) -> Result<(), AllocError>
     requires { vars ≤ most_vars }
-    ensures { OnOk result (lines.new ≡ lines.old ++ line_text (entry_words vars (place, written_by old entry.now))) }
+    ensures { OnOk result (
+        lines.new ≡ lines.old ++ line_text (entry_words vars (place, written_by old entry.now))) }
 {
     lines.begin("entry")?;
     put_numbers(lines, place, entry)?;
@@ -118,7 +121,8 @@ fn put_numbers(lines: &mut Lines, place: usize, entry: &Entry) -> Result<(), All
 }
 
 fn put_callers(lines: &mut Lines, marks: &Marks) -> Result<(), AllocError>
-    ensures { OnOk result (lines.new ≡ lines.old ++ lines_text (flat_map caller_lines (enumerate_from 0 marks.now.marks))) }
+    ensures { OnOk result (lines.new ≡ lines.old ++ lines_text (
+        flat_map caller_lines (enumerate_from 0 marks.now.marks))) }
 {
     for caller in 0..marks.callers() {
         put_caller(lines, marks, caller)?;
@@ -128,7 +132,8 @@ fn put_callers(lines: &mut Lines, marks: &Marks) -> Result<(), AllocError>
 
 fn put_caller(lines: &mut Lines, marks: &Marks, caller: u8) -> Result<(), AllocError>
     requires { caller < length marks.now.marks }
-    ensures { OnOk result (lines.new ≡ lines.old ++ lines_text (caller_lines (caller, marks_of marks.now caller))) }
+    ensures { OnOk result (
+        lines.new ≡ lines.old ++ lines_text (caller_lines (caller, marks_of marks.now caller))) }
 {
     for turn in 0..marks.count(caller) {
         put_turn(lines, caller, turn, marks.mark(caller, turn))?;
@@ -190,7 +195,8 @@ fn put_changes(
     old: bool,
 ) -> Result<(), AllocError>
     requires { vars ≤ most_vars }
-    ensures { OnOk result (lines.new ≡ lines.old ++ spaced (flat_map (change_words vars) (map (change_by old) changes.now))) }
+    ensures { OnOk result (lines.new ≡ lines.old ++ spaced (
+        flat_map (change_words vars) (map (change_by old) changes.now))) }
 {
     for (name, before, after) in changes {
         put_cell(lines, *name)?;
@@ -203,7 +209,8 @@ fn put_changes(
 /// The value before and the word behind it, in texts with old values.
 fn put_old_value(lines: &mut Lines, before: &Cell, vars: u8, old: bool) -> Result<(), AllocError>
     requires { vars ≤ most_vars }
-    ensures { OnOk result (lines.new ≡ lines.old ++ spaced (old_words vars (if old then Some before.now else None))) }
+    ensures { OnOk result (
+        lines.new ≡ lines.old ++ spaced (old_words vars (if old then Some before.now else None))) }
 {
     if old {
         put_value(lines, before, vars)?;

@@ -51,7 +51,8 @@ fn is_one_of(word: &[u8], words: &[&str]) -> bool
 /// The word of a failure, for its line.
 #[tactic(auto, unfolding(text_tokens::specs::Reading::the_line))]
 fn read_failure(tokens: &mut Tokens<'_>, version: u8) -> Result<u32, ReadRefusal>
-    ensures reads { Gives (λ line. line) (reading.the_line (spec.is_failure version)) tokens.old result tokens.new }
+    ensures reads { Gives (λ line. line)
+        (reading.the_line (spec.is_failure version)) tokens.old result tokens.new }
     ensures sure { IfErr result (λ e. e ≢ NoMemory) }
 {
     let token = tokens.take_kind(TokenKind::Word)?;
@@ -135,7 +136,8 @@ fn read_turn(tokens: &mut Tokens<'_>, version: u8) -> Result<(), ReadRefusal>
 
 /// One more turn, if one comes.
 fn more_turn(tokens: &mut Tokens<'_>, version: u8) -> Result<Option<()>, ReadRefusal>
-    ensures reads { Gives (λ o. o) (another spec.is_turn (reader.a_turn version)) tokens.old result tokens.new }
+    ensures reads { Gives (λ o. o)
+        (another spec.is_turn (reader.a_turn version)) tokens.old result tokens.new }
     ensures sure { IfErr result (λ e. e ≢ NoMemory) }
 {
     if !tokens.is_next(TokenKind::Word, b"turn") {
@@ -146,7 +148,8 @@ fn more_turn(tokens: &mut Tokens<'_>, version: u8) -> Result<Option<()>, ReadRef
 }
 
 fn read_all_turns(tokens: &mut Tokens<'_>, version: u8) -> Result<(), ReadRefusal>
-    ensures reads { Gives (λ u. u) (reader.unheeded (reader.all_turn_lines version)) tokens.old result tokens.new }
+    ensures reads { Gives (λ u. u)
+        (reader.unheeded (reader.all_turn_lines version)) tokens.old result tokens.new }
     ensures sure { IfErr result (λ e. e ≢ NoMemory) }
 {
     while let Some(()) = more_turn(tokens, version)? {}
@@ -164,8 +167,8 @@ fn read_whole(tokens: &mut Tokens<'_>, version: u8) -> Result<(), ReadRefusal>
     Ok(())
 }
 
-/// Reads the section `turns` of a document of the version up to its `end`, by its grammar alone. It takes no memory, and never
-/// answers out of memory.
+/// Reads the section `turns` of a document of the version up to its `end`, by its grammar alone.
+/// It takes no memory, and never answers out of memory.
 pub fn read_turns(tokens: &mut Tokens<'_>, version: u8) -> Result<(), ReadRefusal>
     ensures tells { TellsOf (spec.IsTurns version) (λ u. u) tokens.old result tokens.new }
     ensures reads { ReadsOf (spec.IsTurns version) (λ u. u) tokens.old result tokens.new }

@@ -42,12 +42,13 @@ ids_round c vs = flat_map (λ v. ids_on c (closed_ring v)) vs
 abbrev pub nodes_asked : Config → List CellName → List Node
 nodes_asked c cells = fold (with_new node_eq) [] (flat_map (nodes_of_cell c) cells)
 
--- the amoebots that are asked again once these cells have changed: in the configuration before the change those on and round the
--- cells' nodes, each once
+-- the amoebots that are asked again once these cells have changed:
+-- in the configuration before the change those on and round the cells' nodes, each once
 abbrev pub ids_asked : Config → List CellName → List ℕ
 ids_asked c cells = fold (with_new nat_eq) [] (ids_round c (nodes_asked c cells))
 
--- a cell whose nodes can be found: a node whose neighbours have coordinates, or the body of an amoebot
+-- a cell whose nodes can be found: a node whose neighbours have coordinates,
+-- or the body of an amoebot
 abbrev pub IsInReach : Config → CellName → Type 0
 IsInReach c (name.Spot v) = IsNear v
 IsInReach c (name.Body i) = i < length c.bots
@@ -100,7 +101,8 @@ asked_again f world round standings b = standings_after_note round standings b (
 abbrev pub asked_each : (Shown → Verdict) → Config → ℕ → List Standing → List ℕ → List Standing
 asked_each f world round standings ids = fold (asked_again f world round) standings ids
 
--- the standings after an entry of an amoebot that leads to a world, once these amoebots were asked again
+-- the standings after an entry of an amoebot that leads to a world,
+-- once these amoebots were asked again
 abbrev pub next_standings : (Shown → Verdict) → Config → ℕ → ℕ → List ℕ → List Standing → List Standing
 next_standings f world round bot ids standings =
     asked_each f world round (standings_after_entry round standings bot) ids
@@ -116,8 +118,10 @@ abbrev pub IsDecidedWith : (Shown → Verdict) → Config → ℕ → Triples �
 IsDecidedWith f c bot patch =
     (change : Change) × (change.patch ≡ patch) × (f (shown c bot) ≡ verdict.Change change)
 
--- the patch of an amoebot's entry was entered: it led to the next world, and those that may be shown another one were asked again
-pub record IsEntered (f : Shown → Verdict) (old : Metered) (bot : ℕ) (patch : Triples) (new : Metered) : Type 0 where
+-- the patch of an amoebot's entry was entered: it led to the next world,
+-- and those that may be shown another one were asked again
+pub record IsEntered (f : Shown → Verdict) (old : Metered)
+    (bot : ℕ) (patch : Triples) (new : Metered) : Type 0 where
   pub valid : IsValid old.world
   pub no_gaps : (b : ℕ) → b < length old.world.bots → IsSome (bot_at old.world b)
   pub size : length old.standings ≡ length old.world.bots

@@ -1,4 +1,5 @@
--- What a meter keeps of a run, and when that is right: for each amoebot whether it is enabled, and in which round it was last settled.
+-- What a meter keeps of a run, and when that is right: for each amoebot whether it is enabled,
+-- and in which round it was last settled.
 use Rattle.std.specs.Prelude.{◌≡◌, ℕ, ◌+◌, ◌<◌, ◌≤◌, List, [], ◌∷◌, ◌++◌, length, slice_index_or, Bool, false, not, ◌&&◌, nat_eq, Decides, IsSome, OnOk, IfErr}
 use Rattle.std.specs.List.{All, count_by}
 use Rattle.amoebot_state.specs.declared.verdict.Entry.{Entry}
@@ -12,7 +13,8 @@ use Rattle.std.specs.declared.result.Result.{Result}
 use Rattle.round_meter.specs.declared.standing.Standing.{Standing}
 use Rattle.round_meter.specs.Rounds.{IsSettled, AllSettled, RoundsTo, enabled_in}
 
--- the world that was reached, how each amoebot stands, by its id, how many entries were fed, and how many rounds have ended
+-- the world that was reached, how each amoebot stands, by its id, how many entries were fed,
+-- and how many rounds have ended
 pub record Metered : Type 0 where
   pub world : Config
   pub standings : List Standing
@@ -52,9 +54,10 @@ waiting_of m = count_by (waits_in (this_round m)) m.standings
 abbrev pub AreStamped : ℕ → List Standing → Type 0
 AreStamped round standings = All (λ (s : Standing). s.settled_in ≤ round) standings
 
--- a meter stands for a run and its rounds: the last round was started at a place of the journal, each amoebot's flag is right, and it
--- waits exactly where it is not settled in that round
-pub record IsMetered (f : Shown → Verdict) (first : Config) (entries : List Entry) (m : Metered) : Type 0 where
+-- a meter stands for a run and its rounds: the last round was started at a place of the journal,
+-- each amoebot's flag is right, and it waits exactly where it is not settled in that round
+pub record IsMetered (f : Shown → Verdict) (first : Config)
+    (entries : List Entry) (m : Metered) : Type 0 where
   pub valid : IsValid first
   pub no_gaps : (b : ℕ) → b < length first.bots → IsSome (bot_at first b)
   pub run : Run f first entries m.world
@@ -68,14 +71,15 @@ pub record IsMetered (f : Shown → Verdict) (first : Config) (entries : List En
   pub right : (b : ℕ) → b < length first.bots → (standing_of m.standings b).enabled ≡ enabled_in f m.world b
   pub settled : (b : ℕ)
       → b < length first.bots
-      → Decides (not (waits_in (this_round m) (standing_of m.standings b))) (IsSettled f first entries b start (length entries))
+      → Decides (not (waits_in (this_round m) (standing_of m.standings b)))
+      (IsSettled f first entries b start (length entries))
 
 -- it stands for some run
 abbrev pub StandsForRun : (Shown → Verdict) → Metered → Type 0
 StandsForRun f m = (first : Config) × (entries : List Entry) × IsMetered f first entries m
 
--- A meter that stands for a run goes on with an entry: that is a step, and for each run that the meter stood for, it stands with the
--- entry behind.
+-- A meter that stands for a run goes on with an entry: that is a step,
+-- and for each run that the meter stood for, it stands with the entry behind.
 pub record GoesOnWith (f : Shown → Verdict) (e : Entry) (old new : Metered) : Type 0 where
   pub stands : StandsForRun f old
   pub step : Step f old.world e new.world
@@ -98,9 +102,11 @@ pub record IsFed {A D : Type 0} (GoesOn : Metered → Metered → Type 0) (HasNo
       (e.place ≡ old.state.fed) × HasNoStep old.state.world × (new ≡ old))
   pub decider : new.decider ≡ old.decider
 
--- Two meters tell the same of a run and its rounds, and of each amoebot whether it is enabled, and whether it waits.
--- All else that they keep is the round in which an amoebot was settled last that is not enabled, or that waits. No later round depends
--- on that.
+-- Two meters tell the same of a run and its rounds, and of each amoebot whether it is enabled,
+-- and whether it waits.
+-- All else that they keep is the round in which an amoebot was settled last that is not enabled,
+-- or that waits.
+-- No later round depends on that.
 pub record TellTheSame (one two : Metered) : Type 0 where
   pub world : one.world ≡ two.world
   pub fed : one.fed ≡ two.fed
@@ -112,4 +118,5 @@ pub record TellTheSame (one two : Metered) : Type 0 where
       → (standing_of one.standings b).enabled ≡ (standing_of two.standings b).enabled
   pub waits : (b : ℕ)
       → b < length one.standings
-      → waits_in (this_round one) (standing_of one.standings b) ≡ waits_in (this_round two) (standing_of two.standings b)
+      → waits_in (this_round one) (standing_of one.standings b)
+      ≡ waits_in (this_round two) (standing_of two.standings b)

@@ -1,4 +1,6 @@
--- How amoebots stand in the rounds of a run, with counts that are kept, and what a meter is made of. No public clause cites these.
+-- How amoebots stand in the rounds of a run, with counts that are kept,
+-- and what a meter is made of.
+-- No public clause cites these.
 use Rattle.std.specs.Prelude.{◌≡◌, ℕ, ◌+◌, ◌≤◌, List, length, if◌then◌else◌, nat_eq}
 use Rattle.std.specs.List.{count_by}
 use Rattle.amoebot_state.specs.Limits.{most_bots}
@@ -34,7 +36,8 @@ pub record IsTally (standings : List Standing) (rounds able_count waiting_count 
 abbrev pub metered : Config → Tallied → ℕ → Metered
 metered world t fed = record { world = world; standings = t.standings; fed = fed; rounds = t.rounds }
 
--- these parts are of one run: each amoebot of the world has its standing, and no more rounds have ended than entries were fed
+-- these parts are of one run: each amoebot of the world has its standing,
+-- and no more rounds have ended than entries were fed
 pub record IsInStep (world : Config) (t : Tallied) (fed : ℕ) : Type 0 where
   pub size : length t.standings ≡ length world.bots
   pub ended : t.rounds ≤ fed

@@ -10,8 +10,9 @@ use serial_model::{Differs, EntryForm};
 use std::alloc::Global;
 use std::marker::Model;
 
-/// A run that is fed entry by entry, with its rounds. It is seen as its decider and what it keeps: the world that was reached, how each
-/// amoebot stands, how many entries were fed, and how many rounds have ended.
+/// A run that is fed entry by entry, with its rounds.
+/// It is seen as its decider and what it keeps: the world that was reached,
+/// how each amoebot stands, how many entries were fed, and how many rounds have ended.
 #[derive(Drop)]
 pub struct Meter<'d, D: Decider> {
     decider: &'d D,
@@ -52,8 +53,10 @@ impl<'d, D: Decider> Meter<'d, D> {
         let _progress = &self.progress;
     }
 
-    /// Goes on by an entry of one of the world's amoebots. Differs tells that it is no step from the world that was reached, with
-    /// the number of entries fed; the meter is unchanged then. It takes no memory.
+    /// Goes on by an entry of one of the world's amoebots.
+    /// Differs tells that it is no step from the world that was reached,
+    /// with the number of entries fed; the meter is unchanged then.
+    /// It takes no memory.
     pub fn feed(&mut self, entry: &Entry) -> Result<(), Differs>
         requires there { entry.now.bot < length self.old.state.world.bots }
         requires few { self.old.state.fed + 1 < 2 ^ 32 }
@@ -79,7 +82,8 @@ impl<'d, D: Decider> Meter<'d, D> {
     pub fn feed_in<E: EntryForm>(&mut self, told: &E) -> Result<(), Differs>
         requires there { E.bot told.now < length self.old.state.world.bots }
         requires few { self.old.state.fed + 1 < 2 ^ 32 }
-        ensures goes_on { OnOk result (GoesOnIn E.form (D.verdict self.old.decider) told.now self.old.state self.new.state) }
+        ensures goes_on { OnOk result (
+            GoesOnIn E.form (D.verdict self.old.decider) told.now self.old.state self.new.state) }
         ensures fed { OnOk result (self.new.state.fed ≡ self.old.state.fed + 1) }
         ensures size { length self.new.state.world.bots ≡ length self.old.state.world.bots }
         ensures differs { IfErr result (λ e. (e.place ≡ self.old.state.fed)

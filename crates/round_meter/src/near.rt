@@ -23,7 +23,8 @@ type NearNodes = ArrayVec<Node, NODE_ROOM>;
 /// Amoebots, each once.
 pub(crate) type NearIds = ArrayVec<u16, NEAR_ROOM>;
 
-/// The amoebots that are to be asked again once these cells of the world have new values: those on and round the cells' nodes, each once.
+/// The amoebots that are to be asked again once these cells of the world have new values:
+/// those on and round the cells' nodes, each once.
 pub(crate) fn ids_near(world: &World, changes: &[(CellName, Cell, Cell)]) -> NearIds
     requires reach { All (IsInReach world.now) (cells_among changes.now) }
     requires few { length changes.now ≤ most_pairs }
@@ -66,7 +67,8 @@ fn push_nodes(nodes: &mut NearNodes, world: &World, name: &CellName)
     requires reach { IsInReach world.now name.now }
     requires room { array_vec_len nodes.old + 2 ≤ near_nodes_room }
     requires near { All IsNear nodes.old.items }
-    ensures value { nodes.new.items ≡ fold (with_new node_eq) nodes.old.items (nodes_of_cell world.now name.now) }
+    ensures value { nodes.new.items
+        ≡ fold (with_new node_eq) nodes.old.items (nodes_of_cell world.now name.now) }
     ensures few { array_vec_len nodes.new ≤ array_vec_len nodes.old + 2 }
     ensures near { All IsNear nodes.new.items }
 {

@@ -52,7 +52,8 @@ impl Progress {
         })
     }
 
-    /// Goes on with an entry in a form, whose amoebot is shown this. What others are shown takes its place.
+    /// Goes on with an entry in a form, whose amoebot is shown this.
+    /// What others are shown takes its place.
     pub(crate) fn feed<D: Decider, E: EntryForm>(
         &mut self,
         decider: &D,
@@ -78,7 +79,8 @@ impl Progress {
         Ok(())
     }
 
-    /// Goes on by the patch that is decided for an amoebot. `found` is room for what amoebots are shown.
+    /// Goes on by the patch that is decided for an amoebot.
+    /// `found` is room for what amoebots are shown.
     fn enter<D: Decider>(&mut self, decider: &D, bot: u16, patch: &Patch, found: &mut Found)
         requires there { bot < length self.old.world.bots }
         requires few { self.old.fed + 1 < 2 ^ 32 }
@@ -156,7 +158,8 @@ fn first_tally<D: Decider>(alloc: Global, decider: &D, world: &World) -> Result<
     Ok(tally)
 }
 
-/// Asks these amoebots of the world again. What each is shown takes the place of what was found before.
+/// Asks these amoebots of the world again.
+/// What each is shown takes the place of what was found before.
 fn ask_each<D: Decider>(
     tally: &mut Tally,
     decider: &D,

@@ -12,8 +12,9 @@ use std::marker::Model;
 
 /// How each amoebot stands, by its id, and how many rounds have ended.
 ///
-/// Beside them it keeps how many amoebots are enabled, and how many of these wait in the round that goes on. An amoebot waits if it is
-/// enabled and was not settled in that round.
+/// Beside them it keeps how many amoebots are enabled, and how many of these
+/// wait in the round that goes on.
+/// An amoebot waits if it is enabled and was not settled in that round.
 #[derive(Drop)]
 pub(crate) struct Tally {
     standings: Vec<Standing>,
@@ -48,7 +49,8 @@ impl Tally {
     /// Adds the next amoebot, which was settled in no round.
     pub(crate) fn push(&mut self, enabled: bool) -> Result<(), NoMemory>
         requires { length self.old.standings < most_bots }
-        ensures { OnOk result (self.new ≡ with_standings self.old (self.old.standings ++ fresh_standing enabled ∷ [])) }
+        ensures { OnOk result (
+            self.new ≡ with_standings self.old (self.old.standings ++ fresh_standing enabled ∷ [])) }
     {
         let standing = Standing {
             enabled,
@@ -64,7 +66,8 @@ impl Tally {
     pub(crate) fn enter(&mut self, id: u16)
         requires there { id < length self.old.standings }
         requires few { self.old.rounds + 1 < 2 ^ 32 }
-        ensures { self.new ≡ with_standings self.old (standings_after_entry (self.old.rounds + 1) self.old.standings id) }
+        ensures { self.new ≡ with_standings self.old
+            (standings_after_entry (self.old.rounds + 1) self.old.standings id) }
     {
         let before = self.standings[usize::from(id)];
         self.put(
@@ -80,7 +83,8 @@ impl Tally {
     pub(crate) fn note(&mut self, id: u16, enabled: bool)
         requires there { id < length self.old.standings }
         requires few { self.old.rounds + 1 < 2 ^ 32 }
-        ensures { self.new ≡ with_standings self.old (standings_after_note (self.old.rounds + 1) self.old.standings id enabled) }
+        ensures { self.new ≡ with_standings self.old
+            (standings_after_note (self.old.rounds + 1) self.old.standings id enabled) }
     {
         let before = self.standings[usize::from(id)];
         let settled_in = if before.enabled {

@@ -1,4 +1,5 @@
--- Proofs that the two forms of entries are forms. The law of a trait has its proof among the definitions.
+-- Proofs that the two forms of entries are forms.
+-- The law of a trait has its proof among the definitions.
 use Rattle.std.proofs.Common.{◌≡◌, ◌⊎◌, inl, inr, ap, refl}
 use Rattle.amoebot_state.specs.declared.verdict.Change.{Change}
 use Rattle.amoebot_state.specs.declared.verdict.Entry.{Entry}

@@ -11,8 +11,10 @@ use Rattle.serial_model.specs.Replays.{StepIn, RunIn, IsNoStep, IsFirstNoStep}
 
 -- Of entries that are told in full, the steps and runs are those of the model.
 pub record FullIsItself : Type 0 where
-  pub step : (f : Shown → Verdict) (old new : Config) (e : Entry) → StepIn full_entry f old e new ↔ Step f old e new
-  pub run : (f : Shown → Verdict) (old last : Config) (es : List Entry) → RunIn full_entry f old es last ↔ Run f old es last
+  pub step : (f : Shown → Verdict) (old new : Config) (e : Entry)
+      → StepIn full_entry f old e new ↔ Step f old e new
+  pub run : (f : Shown → Verdict) (old last : Config) (es : List Entry)
+      → RunIn full_entry f old es last ↔ Run f old es last
 
 -- a run of entries that are told in a form is steps of them, one after another
 pub record RunIsSteps {E : Type 0} (form : Entry → E) : Type 0 where
@@ -36,7 +38,8 @@ RunHasOnlySteps {E} form =
     → RunIn form f start told last
     → ¬ IsFirstNoStep form f start told place
 
--- where each change that f decides leads somewhere, entries from a valid configuration are a run, or have such a place
+-- where each change that f decides leads somewhere, entries from a valid configuration are a run,
+-- or have such a place
 abbrev pub RunOrFirstNoStep : {E : Type 0} → (Entry → E) → Type 0
 RunOrFirstNoStep {E} form =
     (f : Shown → Verdict) (start : Config) (told : List E)
@@ -44,8 +47,10 @@ RunOrFirstNoStep {E} form =
     → IsValid start
     → ((last : Config) × RunIn form f start told last) ⊎ ((place : ℕ) × IsFirstNoStep form f start told place)
 
--- Where each change that f decides leads somewhere, take what is told of an amoebot of a valid configuration.
--- It is no step exactly where the verdict on that amoebot is the change of no entry that is told so.
+-- Where each change that f decides leads somewhere, take what is told
+-- of an amoebot of a valid configuration.
+-- It is no step exactly where the verdict on that amoebot
+-- is the change of no entry that is told so.
 abbrev pub NoStepIsAnotherVerdict : {E : Type 0} → (Entry → E) → (E → ℕ) → Type 0
 NoStepIsAnotherVerdict {E} form bot =
     (f : Shown → Verdict) (old : Config) (told : E)
@@ -55,7 +60,8 @@ NoStepIsAnotherVerdict {E} form bot =
     → IsNoStep form f old told
     ↔ ((e : Entry) → form e ≡ told → f (shown old (bot told)) ≢ verdict.Change (change_of e))
 
--- a step is determined by its entry without old values: it has one entry and leads to one configuration
+-- a step is determined by its entry without old values:
+-- it has one entry and leads to one configuration
 abbrev pub PlainStepIsUnique : Type 0
 PlainStepIsUnique =
     (f : Shown → Verdict) (old : Config) (e d : Entry) (new other : Config)

@@ -1,5 +1,5 @@
--- Whether entries, told in a form, are a run, and if not, at which place it ends. Runs are the paper's; entries, their forms and
--- their places are this project's profile.
+-- Whether entries, told in a form, are a run, and if not, at which place it ends.
+-- Runs are the paper's; entries, their forms and their places are this project's profile.
 use Rattle.std.specs.Prelude.{◌≡◌, ◌<◌, ◌^◌, ℕ, List, length, map, slice_get, take}
 use Rattle.std.specs.declared.option.Option.TheVariants.{Some}
 use Rattle.amoebot_state.specs.declared.verdict.Entry.{Entry}
@@ -25,9 +25,11 @@ RunIn form f old told last = InForm (map form) (λ (es : List Entry). Run f old 
 abbrev pub IsNoStep : {E : Type 0} → (Entry → E) → (Shown → Verdict) → Config → E → Type 0
 IsNoStep form f old told = (new : Config) → ¬ StepIn form f old told new
 
--- The first place that is no step. One is told there, those before it are of a run to some world, and from that world there is no
--- step of it.
-pub record IsFirstNoStep {E : Type 0} (form : Entry → E) (f : Shown → Verdict) (start : Config) (told : List E)
+-- The first place that is no step.
+-- One is told there, those before it are of a run to some world,
+-- and from that world there is no step of it.
+pub record IsFirstNoStep {E : Type 0} (form : Entry → E)
+    (f : Shown → Verdict) (start : Config) (told : List E)
     (place : ℕ) : Type 0 where
   pub entry : E
   pub there : slice_get told place ≡ Some entry

@@ -1,4 +1,5 @@
--- Proofs that `==` of changes and of their parts says when they are the same. `FormLaws` stands on them.
+-- Proofs that `==` of changes and of their parts says when they are the same.
+-- `FormLaws` stands on them.
 use Rattle.std.proofs.Common.{rules, ◌≡◌, Bool, true, false, ◌&&◌, ◌⊎◌, inl, inr, ap, sym, ◌∙◌, refl}
 use Rattle.std.specs.Prelude.{nat_eq}
 use Rattle.std.specs.Bool.{Decides}
@@ -19,7 +20,8 @@ use Rattle.amoebot_state.specs.Steps.{entry_of, plain_entry}
 use Rattle.amoebot_state.proofs.Values.{fields_decide, chirs_decide}
 
 -- two tests in a row
-both_decide : {P Q R : Type 0} {a b : Bool} → Decides a P → Decides b Q → (P → Q → R) → (R → P) → (R → Q) → Decides (a && b) R
+both_decide : {P Q R : Type 0} {a b : Bool} → Decides a P → Decides b Q
+    → (P → Q → R) → (R → P) → (R → Q) → Decides (a && b) R
 both_decide one two make first second = (
   (λ t. let parts = and_parts _ _ t in make (one.0 parts.0) (two.0 parts.1)),
   (λ r. and_from _ _ (one.1 (first r)) (two.1 (second r))),
@@ -96,7 +98,8 @@ IsToldBy p change = plain_entry (entry_of p.caller p.turn p.bot change) ≡ p
 -- an entry without old values tells a change, or does not
 told_decides : (p : PlainEntry) (change : Change)
     → Decides (nat_eq p.action change.action
-    && (same_moved.eq-value.it p.moved change.moved && pointwise is_same_pair p.patch (plain_patch change.patch)))
+    && (same_moved.eq-value.it p.moved change.moved
+    && pointwise is_same_pair p.patch (plain_patch change.patch)))
     (IsToldBy p change)
 told_decides p change =
     let rest = both_decide {R = (p.moved ≡ change.moved) × (p.patch ≡ plain_patch change.patch)}

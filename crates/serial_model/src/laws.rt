@@ -29,7 +29,8 @@ pub fn run_or_first_no_step<E: EntryForm>()
 {}
 
 /// Take what is told of an amoebot of a valid configuration.
-/// It is no step exactly where the verdict on that amoebot is the change of no entry that is told so.
+/// It is no step exactly where the verdict on that amoebot
+/// is the change of no entry that is told so.
 pub fn no_step_is_another_verdict<E: EntryForm>()
     ensures { NoStepIsAnotherVerdict E.form E.bot }
 {}

@@ -54,8 +54,9 @@ impl Serial {
         Serial { world, found }
     }
 
-    /// One turn of a caller on an amoebot, which is one of the world's: what the amoebot is shown is decided on, and a change
-    /// is made. Where it is none, the world stays.
+    /// One turn of a caller on an amoebot, which is one of the world's:
+    /// what the amoebot is shown is decided on, and a change is made.
+    /// Where it is none, the world stays.
     pub fn activate<D: Decider>(&mut self, decider: &D, caller: u8, turn: u32, bot: u16) -> Turned
         requires { bot < length self.old.bots }
         ensures turns { SerialTurn (D.verdict decider.now) caller turn bot self.old result self.new }
@@ -73,7 +74,8 @@ impl Serial {
         }
     }
 
-    /// One turn whose entry is this one, apart from the old values of its patch, and whose amoebot is one of the world's.
+    /// One turn whose entry is this one, apart from the old values of its patch,
+    /// and whose amoebot is one of the world's.
     /// It answers the whole entry, if there is such a turn. Where there is none, the world stays.
     pub fn follow<D: Decider>(&mut self, decider: &D, plain: &PlainEntry) -> Option<Entry>
         requires { plain.now.bot < length self.old.bots }
@@ -103,7 +105,8 @@ impl Serial {
     fn make_step<D: Decider, E: EntryForm>(&mut self, decider: &D, told: &E) -> Option<Change>
         requires { E.bot told.now < length self.old.bots }
         ensures told { IfSome result (λ change. E.form (E.entry told.now change) ≡ told.now) }
-        ensures step { IfSome result (λ change. Step (D.verdict decider.now) self.old (E.entry told.now change) self.new) }
+        ensures step { IfSome result (λ change.
+            Step (D.verdict decider.now) self.old (E.entry told.now change) self.new) }
         ensures none { IfNone result (IsNoStep E.form (D.verdict decider.now) self.old told.now) }
         ensures stays { IfNone result (self.new ≡ self.old) }
         ensures size { length self.new.bots ≡ length self.old.bots }

@@ -16,13 +16,16 @@ pub struct Differs {
     pub place: u32,
 }
 
-/// Whether the entries, whose amoebots are the world's, are a run of the model from the start: Ok gives the world that they lead
-/// to. Differs gives the first place that is no step; the start is dropped then. It takes no memory.
+/// Whether the entries, whose amoebots are the world's, are a run of the model from the start:
+/// Ok gives the world that they lead to.
+/// Differs gives the first place that is no step; the start is dropped then.
+/// It takes no memory.
 pub fn replay<D: Decider>(decider: &D, start: World, entries: &[Entry]) -> Result<World, Differs>
     requires there { All (λ e. e.bot < length start.bots) entries.now }
     requires few { AreCountable entries.now }
     ensures run { IfOk result (λ world. Run (D.verdict decider.now) start entries.now world) }
-    ensures differs { IfErr result (λ e. IsFirstNoStep full_entry (D.verdict decider.now) start entries.now e.place) }
+    ensures differs { IfErr result (λ e.
+        IsFirstNoStep full_entry (D.verdict decider.now) start entries.now e.place) }
 {
     full_is_itself();
     replay_in(decider, start, entries)
@@ -37,7 +40,8 @@ pub fn replay_plain<D: Decider>(
     requires there { All (λ p. p.bot < length start.bots) entries.now }
     requires few { AreCountable entries.now }
     ensures run { IfOk result (λ world. RunIn plain_entry (D.verdict decider.now) start entries.now world) }
-    ensures differs { IfErr result (λ e. IsFirstNoStep plain_entry (D.verdict decider.now) start entries.now e.place) }
+    ensures differs { IfErr result (λ e.
+        IsFirstNoStep plain_entry (D.verdict decider.now) start entries.now e.place) }
 {
     replay_in(decider, start, entries)
 }
@@ -51,7 +55,8 @@ pub fn replay_in<D: Decider, E: EntryForm>(
     requires there { All (λ e. E.bot e < length start.bots) entries.now }
     requires few { AreCountable entries.now }
     ensures run { IfOk result (λ world. RunIn E.form (D.verdict decider.now) start entries.now world) }
-    ensures differs { IfErr result (λ e. IsFirstNoStep E.form (D.verdict decider.now) start entries.now e.place) }
+    ensures differs { IfErr result (λ e.
+        IsFirstNoStep E.form (D.verdict decider.now) start entries.now e.place) }
 {
     if entries.is_empty() {
         return Ok(start);
@@ -119,7 +124,8 @@ fn makes_step<D: Decider, E: EntryForm>(
     }
 }
 
-/// Makes the step of an entry in a form, if there is one, where this is what its amoebot is shown: the change that was decided.
+/// Makes the step of an entry in a form, if there is one, where this is what its amoebot is shown:
+/// the change that was decided.
 #[inline(always)]
 pub(crate) fn make_step_on<D: Decider, E: EntryForm>(
     decider: &D,
@@ -130,7 +136,8 @@ pub(crate) fn make_step_on<D: Decider, E: EntryForm>(
     requires there { E.bot told.now < length world.old.bots }
     requires found { found.now ≡ shown world.old (E.bot told.now) }
     ensures told { IfSome result (λ change. E.form (E.entry told.now change) ≡ told.now) }
-    ensures step { IfSome result (λ change. Step (D.verdict decider.now) world.old (E.entry told.now change) world.new) }
+    ensures step { IfSome result (λ change.
+        Step (D.verdict decider.now) world.old (E.entry told.now change) world.new) }
     ensures none { IfNone result (IsNoStep E.form (D.verdict decider.now) world.old told.now) }
     ensures stays { IfNone result (world.new ≡ world.old) }
     ensures size { length world.new.bots ≡ length world.old.bots }
@@ -142,7 +149,8 @@ pub(crate) fn make_step_on<D: Decider, E: EntryForm>(
     Some(change)
 }
 
-/// Whether the decision on the entry's amoebot, which is one of the world's, is the change that the entry tells.
+/// Whether the decision on the entry's amoebot, which is one of the world's,
+/// is the change that the entry tells.
 pub fn decides_entry<D: Decider>(decider: &D, world: &World, entry: &Entry) -> bool
     requires { entry.now.bot < length world.now.bots }
     ensures { Decides result
