@@ -2,8 +2,8 @@
 --   journal := "journal" { entry } "end"
 --   entry   := "entry" place caller turn bot action moved { pair }      five NUMBERs
 --   moved   := "none" | "expand" port | "contract" ( "head" | "tail" ) | "push" port | "pull" port
---   pair    := "spot" node occ | "body" NUMBER amoebot                              without old values
---   pair    := "spot" node occ "to" occ | "body" NUMBER amoebot "to" amoebot        with old values
+--   pair    := "spot" node occ | "body" NUMBER amoebot                          without old values
+--   pair    := "spot" node occ "to" occ | "body" NUMBER amoebot "to" amoebot    with old values
 --   occ     := NUMBER | "empty"
 -- The 65,537th entry and the 11th pair of an entry are TooMany.
 -- Once no further pair comes, an entry is judged, and blamed at its word.

@@ -1,8 +1,10 @@
 -- The section `turns`. It is read by its grammar alone, and stands for nothing.
 --   turns   := "turns" { "turn" NUMBER NUMBER mark } "end"
---   mark    := "done" NUMBER | "idle" NUMBER | "failed" failure NUMBER | "busy" cell "by" NUMBER NUMBER NUMBER "place" NUMBER
+--   mark    := "done" NUMBER | "idle" NUMBER | "failed" failure NUMBER | busy
+--   busy    := "busy" cell "by" NUMBER NUMBER NUMBER "place" NUMBER
 --   cell    := "spot" node | "body" NUMBER
---   failure := one of the words of failures; the last one, `blocked`, only where the version may have walls
+--   failure := one of the words of failures
+-- The last of them, `blocked`, is one only where the version may have walls.
 -- There is no rule on ranges but that on the coordinates of cells,
 -- and no limit on the number of turns.
 use Rattle.std.specs.Prelude.{ℕ, Bool, ◌&&◌, if◌then◌else◌, List, [], ◌∷◌, take, map, codes}
