@@ -1,4 +1,5 @@
--- A statement that is built again of parts with the same trees and with places: its tree, and that its names have their places.
+-- A statement that is built again, of parts with the same trees whose names have their places.
+-- It has the same tree, and its names have their places.
 use Rattle.std.proofs.Common.{◌≡◌, ◌∙◌, Vec, List, true, ap, sym}
 use Rattle.std.proofs.lemmas.Bool.{and_from}
 use Rattle.std.specs.declared.alloc.Global.{Global}

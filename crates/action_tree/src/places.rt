@@ -55,8 +55,9 @@ pub fn placed_guard(guard: Guard, scope: &Scope<'_>) -> Guard
     }
 }
 
-/// The guard of a box. Here and below, what stood for a value meanwhile is dropped by a call: this leaves less
-/// to prove than an assignment does.
+/// The guard of a box.
+/// Here and below a call drops what stood for a value meanwhile.
+/// That leaves less to prove than an assignment does.
 #[cycle(places)]
 fn placed_box(mut guard: Box<Guard>, scope: &Scope<'_>) -> Box<Guard>
     requires { HasRoom (placed_scope scope.now) (guard_names (view.guard_of guard.value)) }

@@ -1,6 +1,6 @@
 //! The parts of programs, all on line 0.
 
-ghost use Rattle.std.specs.Prelude.{◌≡◌, ◌∷◌, [], false, codes, map, IfOk};
+ghost use Rattle.std.specs.Prelude.{◌≡◌, ◌∷◌, [], false, codes, map, IfOk, Ok};
 ghost use Rattle.action_tree.specs.Trees as tree;
 ghost use Rattle.action_tree.specs.Views.{name_of, literal_of, guard_of, port_of, term_of, sum_of, stmt_of, stmts_of};
 ghost use Rattle.action_tree.specs.Views.{move_of, var_of, action_of};
@@ -28,6 +28,20 @@ pub(crate) fn q() -> PortExpr
     ensures { port_of result ≡ tree.bound (sample.example_name (codes "q")) }
 {
     PortExpr::Name(Word::new(b"q", 0))
+}
+
+/// A part, and the next one where that was made.
+/// A caller that puts its part in here owns none at its `?`, which leaves it less to prove.
+pub(crate) fn beside<A: Drop, B: Drop>(
+    before: A,
+    next: Result<B, AllocError>,
+) -> Result<(A, B), AllocError>
+    ensures { IfOk result (λ r. (r.0 ≡ before) × (next ≡ Ok r.1)) }
+{
+    match next {
+        Ok(next) => Ok((before, next)),
+        Err(error) => Err(error),
+    }
 }
 
 /// A sum of one term.

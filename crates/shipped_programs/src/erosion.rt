@@ -7,7 +7,7 @@ ghost use Rattle.action_tree.specs.declared.expression.PortSet.TheVariants.{Port
 ghost use Rattle.action_tree.specs.Shipped as sample;
 ghost use Rattle.shipped_programs.specs.Shipped.{run_ends, erode_guard, erode_body};
 
-use crate::build::{action, all_three, both, is, not, p, set_to, some_port, turned, var};
+use crate::build::{action, all_three, beside, both, is, not, p, set_to, some_port, turned, var};
 use action_tree::{Action, Guard, Move, PortExpr, PortSet, Program, Stmt, Term, Var, Word};
 use std::alloc::{AllocError, Global};
 
@@ -73,8 +73,11 @@ fn lead_guard(alloc: Global) -> Result<Guard, AllocError>
         ∷ tree.negation (sample.some_port (sample.there_is sample.p (codes "cand") 1)) ∷ [])) }
 {
     let alone = no_other(alloc)?;
-    let candidate = is(alloc, Term::Own(cand()), 1)?;
-    let no_leader = is(alloc, Term::Own(leader()), 0)?;
+    let (alone, candidate) = beside(alone, is(alloc, Term::Own(cand()), 1))?;
+    let ((alone, candidate), no_leader) = beside(
+        (alone, candidate),
+        is(alloc, Term::Own(leader()), 0),
+    )?;
     all_three(alloc, candidate, no_leader, alone)
 }
 

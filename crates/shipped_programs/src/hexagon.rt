@@ -11,8 +11,8 @@ ghost use Rattle.shipped_programs.specs.Shipped.{drag_guard, drag_body, tail_fol
 ghost use Rattle.shipped_programs.specs.Shipped.{rest_guard, waits, head_follower};
 
 use crate::build::{
-    action, all_four, all_three, both, either, first_port, is, literal, not, number, one, p, q,
-    some_port, three_stmts, turned, two_stmts, var,
+    action, all_four, all_three, beside, both, either, first_port, is, literal, not, number, one,
+    p, q, some_port, three_stmts, turned, two_stmts, var,
 };
 use action_tree::{Action, Cmp, Guard, Move, Part, PortExpr, Program, Stmt, Sum, Term, Var, Word};
 use amoebot_state::End;
@@ -322,8 +322,8 @@ fn drag_guard(alloc: Global) -> Result<Guard, AllocError>
     ensures { IfOk result (λ g. guard_of g ≡ drag_guard) }
 {
     let moving = in_state(alloc, 2, 3)?;
-    let alone = none_is_idle(alloc)?;
-    let behind = some_follower(alloc)?;
+    let (moving, alone) = beside(moving, none_is_idle(alloc))?;
+    let ((moving, alone), behind) = beside((moving, alone), some_follower(alloc))?;
     all_four(alloc, Guard::Expanded, moving, alone, behind)
 }
 
@@ -360,9 +360,12 @@ fn follower_at_tail(alloc: Global, asked: Guard) -> Result<Guard, AllocError>
         ∷ sample.equals (tree.of_port sample.p (sample.example_name (codes "parent"))) (tree.direction tree.peer_side sample.p)
         ∷ [])) }
 {
-    let at_tail = not(alloc, Guard::AtHead(p()))?;
-    let follower = state_is(alloc, p(), 2)?;
-    let here = points_here(alloc, parent())?;
+    let (asked, at_tail) = beside(asked, not(alloc, Guard::AtHead(p())))?;
+    let ((asked, at_tail), follower) = beside((asked, at_tail), state_is(alloc, p(), 2))?;
+    let ((asked, at_tail, follower), here) = beside(
+        (asked, at_tail, follower),
+        points_here(alloc, parent()),
+    )?;
     all_four(alloc, at_tail, follower, asked, here)
 }
 
@@ -416,7 +419,7 @@ fn rest_guard(alloc: Global) -> Result<Guard, AllocError>
     ensures { IfOk result (λ g. guard_of g ≡ rest_guard) }
 {
     let free = not(alloc, waits(alloc)?)?;
-    let moving = in_state(alloc, 2, 3)?;
+    let (free, moving) = beside(free, in_state(alloc, 2, 3))?;
     all_three(alloc, Guard::Expanded, moving, free)
 }
 
@@ -425,7 +428,7 @@ fn waits(alloc: Global) -> Result<Guard, AllocError>
     ensures { IfOk result (λ g. guard_of g ≡ waits) }
 {
     let idle = state_is(alloc, p(), 0)?;
-    let follower = head_follower(alloc)?;
+    let (idle, follower) = beside(idle, head_follower(alloc))?;
     some_port(alloc, either(alloc, idle, follower)?)
 }
 

@@ -17,7 +17,8 @@ amid_from : (z : ℤ) (side : ℕ) → (pos 1 ≤ℤ z) → ((z +ℤ pos 2) ≤�
 amid_from (pos n) side low high = and_from _ _ (lt-ltb 0 n (omega (arith, ints))) (lt-ltb (n + 1) side (omega (arith, ints)))
 amid_from (negsuc n) side low high = absurd (omega (arith, ints))
 
--- what lies before the beginning of a side, or at it, is not amid it; what lies behind the beginning is where the end is far enough
+-- what lies before the beginning of a side, or at it, is not amid it
+-- what lies behind the beginning is amid it where the end is far enough
 pub before_amid : (z : ℤ) (side : ℕ) → (z <ℤ pos 0) → false ≡ is_amid_side z side
 before_amid (pos n) side l = absurd (omega (arith, ints))
 before_amid (negsuc n) side l = refl
