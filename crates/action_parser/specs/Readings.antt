@@ -43,4 +43,5 @@ a_joint = made (one is_plus_or_minus) (is_a role.MinusSign)
 
 -- a variable, or that of a neighbour where a dot comes behind its name
 abbrev pub own_or_member : Reader Term
-own_or_member = one (is_a role.AName) >>= λ v. optional (is_a role.DotSign) (own (as_name v)) (member (bound (as_name v)))
+own_or_member = one (is_a role.AName) >>= λ v.
+    optional (is_a role.DotSign) (own (as_name v)) (member (bound (as_name v)))

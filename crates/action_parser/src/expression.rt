@@ -1,4 +1,5 @@
-//! Guards, sums and ports. They contain each other, one level deeper behind each token that opens one.
+//! Guards, sums and ports.
+//! They contain each other, one level deeper behind each token that opens one.
 //!
 //! Each function knows how many more levels may be opened, and how many more names may be bound.
 
@@ -64,7 +65,8 @@ fn more_conj(
     room: u32,
 ) -> Result<Option<Guard>, ReadRefusal>
     ensures reads { Gives (λ o. option_map guard_of o)
-        (another (is_a role.OrWord) (behind_sign (is_a role.OrWord) (spec.conj_in levels names (inside levels)) room))
+        (another (is_a role.OrWord)
+        (behind_sign (is_a role.OrWord) (spec.conj_in levels names (inside levels)) room))
         tokens.old result tokens.new }
     ensures room { IfOk result (λ o. IfSome o (λ _. 0 < room)) }
 {
@@ -208,7 +210,8 @@ fn more_part(
     room: u32,
 ) -> Result<Option<Part>, ReadRefusal>
     ensures reads { Gives (λ o. option_map part_of o)
-        (another is_plus_or_minus (behind_sign is_plus_or_minus (spec.part_in levels names (inside levels)) room))
+        (another is_plus_or_minus
+        (behind_sign is_plus_or_minus (spec.part_in levels names (inside levels)) room))
         tokens.old result tokens.new }
     ensures room { IfOk result (λ o. IfSome o (λ _. 0 < room)) }
 {

@@ -81,7 +81,8 @@ fn opens_level(role: Role) -> bool
     }
 }
 
-/// How a token of this role is refused with which one too many may begin, where so many more levels may be opened.
+/// How a token of this role is refused with which one too many may begin,
+/// where so many more levels may be opened.
 fn kind_of(begins: bool, role: Role, levels: u32) -> RefusalKind
     ensures { result ≡ full_kind begins role levels }
 {

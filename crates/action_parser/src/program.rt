@@ -154,9 +154,12 @@ fn read_parts(alloc: Global, tokens: &mut Tokens<'_>) -> Result<Parts, ReadRefus
 
 /// Reads a program up to its `end`.
 pub fn parse_program(alloc: Global, tokens: &mut Tokens<'_>) -> Result<Program, ReadRefusal>
-    // What is read is a text of the grammar that passes no limit, and what is refused is the first fault. Only out of memory is free.
+    // What is read is a text of the grammar that passes no limit,
+    // and what is refused is the first fault.
+    // Only out of memory is free.
     ensures tells { TellsOf IsProgram (λ p. p) tokens.old result tokens.new }
-    // A text of the grammar, where the next token does not go on behind it, is read as its tree, or refused at its first refusal.
+    // A text of the grammar, where the next token does not go on behind it, is read as its tree,
+    // or refused at its first refusal.
     ensures reads { ReadsOf IsProgram (λ p. p) tokens.old result tokens.new }
 {
     tokens.are_cut();

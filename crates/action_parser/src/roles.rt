@@ -50,9 +50,11 @@ pub fn token(tokens: &mut Tokens<'_>, role: Role) -> Result<Token, ReadRefusal>
     Ok(tokens.take_any()?)
 }
 
-/// The next token, if it has this role and so many more levels may be opened. Without one it is `TooDeep`.
+/// The next token, if it has this role and so many more levels may be opened.
+/// Without one it is `TooDeep`.
 pub fn open(tokens: &mut Tokens<'_>, role: Role, levels: u32) -> Result<Token, ReadRefusal>
-    ensures reads { Gives (lexeme_of tokens.old.source) (reading.opening_token levels (is_a role)) tokens.old result tokens.new }
+    ensures reads { Gives (lexeme_of tokens.old.source)
+        (reading.opening_token levels (is_a role)) tokens.old result tokens.new }
     ensures deep { OnOk result (0 < levels) }
 {
     let opening = token(tokens, role)?;

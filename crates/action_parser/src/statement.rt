@@ -133,7 +133,8 @@ fn put_behind(
     levels: u32,
     names: u32,
 ) -> Result<Stmt, ReadRefusal>
-    ensures { Gives stmt_of (spec.stmt_by levels names (stmts_inside levels) role.AName) tokens.old result tokens.new }
+    ensures { Gives stmt_of
+        (spec.stmt_by levels names (stmts_inside levels) role.AName) tokens.old result tokens.new }
 {
     let name = name(tokens)?;
     let Some(role) = next_role(tokens) else {
@@ -174,7 +175,8 @@ fn read_let(
     levels: u32,
     names: u32,
 ) -> Result<Stmt, ReadRefusal>
-    ensures { Gives stmt_of (spec.stmt_by levels names (stmts_inside levels) role.LetWord) tokens.old result tokens.new }
+    ensures { Gives stmt_of
+        (spec.stmt_by levels names (stmts_inside levels) role.LetWord) tokens.old result tokens.new }
 {
     token(tokens, Role::LetWord)?;
     let name = bound_name(tokens, names)?;
@@ -209,7 +211,8 @@ fn read_else(
     levels: u32,
     names: u32,
 ) -> Result<Vec<Stmt>, ReadRefusal>
-    ensures { Gives (λ v. stmts_of v.items) (spec.else_part (spec.stmts_at levels) names) tokens.old result tokens.new }
+    ensures { Gives (λ v. stmts_of v.items)
+        (spec.else_part (spec.stmts_at levels) names) tokens.old result tokens.new }
 {
     if !is_next(tokens, Role::ElseWord) {
         return Ok(Vec::new(alloc));
@@ -238,7 +241,8 @@ fn read_for(
 
 /// An `if` of a guard, statements, and those behind `else`, which are none where it does not come.
 fn if_then(guard: Guard, body: Vec<Stmt>, otherwise: Vec<Stmt>) -> Stmt
-    ensures { stmt_of result ≡ tree.if_then (guard_of guard) (stmts_of body.items) (stmts_of otherwise.items) }
+    ensures { stmt_of result
+        ≡ tree.if_then (guard_of guard) (stmts_of body.items) (stmts_of otherwise.items) }
 {
     Stmt::If(guard, body, otherwise)
 }
@@ -268,7 +272,8 @@ pub fn read_body(
     read_stmts(alloc, tokens, levels, names)
 }
 
-/// The movement of an action behind `move`, if it comes. What a `let` of these statements binds is in force.
+/// The movement of an action behind `move`, if it comes.
+/// What a `let` of these statements binds is in force.
 pub fn read_moved(
     alloc: Global,
     tokens: &mut Tokens<'_>,
@@ -276,7 +281,8 @@ pub fn read_moved(
     names: u32,
     body: &[Stmt],
 ) -> Result<Move, ReadRefusal>
-    ensures { Gives move_of (programs.a_moved levels (names_left_after_all names (stmts_of body.now))) tokens.old result tokens.new }
+    ensures { Gives move_of (programs.a_moved levels (names_left_after_all names (stmts_of body.now)))
+        tokens.old result tokens.new }
 {
     if !is_next(tokens, Role::MoveWord) {
         return Ok(Move::None);

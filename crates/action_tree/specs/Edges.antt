@@ -1,4 +1,5 @@
--- Pairs of programs on both sides of each limit: one that just keeps it, and one that just passes it.
+-- Pairs of programs on both sides of each limit: one that just keeps it,
+-- and one that just passes it.
 use Rattle.std.specs.Prelude.{ℕ, zero, suc, Bool, true, false, not, ◌&&◌, List, [], ◌∷◌, ◌++◌, codes}
 use Rattle.action_tree.specs.declared.expression.PortSet.TheVariants.{Ports, Free}
 use Rattle.action_tree.specs.declared.expression.Cmp.TheVariants.{Lt}
@@ -76,7 +77,10 @@ abbrev least : (ℕ → Program) → ℕ → Edge
 least at n = record { kept = at (suc n); passed = at n }
 
 abbrev spelling : List ℕ → List ℕ → Edge
-spelling good bad = record { kept = of_sum (sum_of_term (own (example_name good))); passed = of_sum (sum_of_term (own (example_name bad))) }
+spelling good bad = record {
+  kept = of_sum (sum_of_term (own (example_name good)));
+  passed = of_sum (sum_of_term (own (example_name bad)));
+}
 
 -- 32 levels, and one more, by each kind of opening
 abbrev pub levels : List Edge
@@ -92,7 +96,8 @@ levels =
     ∷ edge (λ n. of_port (times n turn p)) 32
     ∷ edge (λ n. of_port (times n turn (first_port yes))) 31
     ∷ edge (λ n. of_move (times n turn p)) 32
-    ∷ edge (λ n. of_stmt (put_of (times n turn p) (example_name (codes "x")) (sum_of_term (number (literal 0))))) 32
+    ∷ edge
+    (λ n. of_stmt (put_of (times n turn p) (example_name (codes "x")) (sum_of_term (number (literal 0))))) 32
     ∷ edge (λ n. of_stmt (let_be (example_name (codes "p")) (times n turn p))) 32
     ∷ edge (λ n. of_stmt (times n when_so set_x)) 32
     ∷ edge (λ n. of_stmt (if_then (times n negation yes) (stmts (set_x ∷ [])) no_stmts)) 31
@@ -109,7 +114,8 @@ name_edges =
     ∷ edge (λ n. of_guard (times n (λ g. comparison (counted g) Lt (counted yes)) yes)) 4
     ∷ edge (λ n. of_port (first_port (times n (λ g. tested linked (first_port g)) yes))) 3
     ∷ edge (λ n. of_stmt (times n (λ s. for_p (s ∷ [])) set_x)) 4
-    ∷ edge (λ n. of_stmt (for_each (example_name (codes "p")) Ports (times n some_port yes) (stmts (set_x ∷ [])))) 3
+    ∷ edge
+    (λ n. of_stmt (for_each (example_name (codes "p")) Ports (times n some_port yes) (stmts (set_x ∷ [])))) 3
     ∷ edge (λ n. of_body (copies n let_p)) 4
     ∷ edge (λ n. of_body (copies n let_p ++ when_so let_p ∷ set_x ∷ [])) 3
     ∷ edge (λ n. of_body (copies n let_p ++ let_be (example_name (codes "q")) (first_port yes) ∷ [])) 3
@@ -130,7 +136,8 @@ counts =
     ∷ edge (λ n. of_stmt (if_then yes (stmts (set_x ∷ [])) (stmts (copies n set_x)))) 64
     ∷ edge (λ n. of_stmt (for_p (copies n set_x))) 64
     ∷ edge (λ n. record { guard = false; vars = copies n (var (codes "x") 0); actions = [] }) 8
-    ∷ edge (λ n. record { guard = false; vars = []; actions = copies n (action (codes "a") yes [] no_move) }) 32
+    ∷ edge
+    (λ n. record { guard = false; vars = []; actions = copies n (action (codes "a") yes [] no_move) }) 32
     ∷ []
 
 -- two elements, one term or statement, and one less

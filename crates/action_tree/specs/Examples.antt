@@ -28,7 +28,8 @@ IsRead {A} P bare text a = (b : A) × IsText P (front_of text).ahead b [] × (ba
 
 -- the first fault, at the token of this number
 abbrev pub IsRefusedText : {A : Type 0} → Lang A → List ℕ → ℕ → RefusalKind → Type 0
-IsRefusedText P text number kind = IsFault P (front_of text).last (front_of text).ahead (record { line = number; kind = kind })
+IsRefusedText P text number kind =
+    IsFault P (front_of text).last (front_of text).ahead (record { line = number; kind = kind })
 
 -- a text with its first fault, at the token of this number
 pub record Wrong : Type 0 where
@@ -68,9 +69,12 @@ every_form_text = with_blanks (codes "program guard on var x 1"
     ∷ codes "or any p in ports ( linked p ) or all p in free ( free head 0 )"
     ∷ codes "or at_head tail x or peer_expanded turn p 1 or peer_head first p in ports ( true )"
     ∷ codes "or - 1 + x - p . x + count p in ports ( true ) + dir p + peer_dir p + inner + mod6 ( x )"
-    ∷ codes "= inner and inner != inner and inner < inner and inner <= inner and inner > inner and inner >= inner"
-    ∷ codes "do x := - 1 + x - p . x + count p in ports ( true ) + dir p + peer_dir p + inner + mod6 ( x ) ; p . x := inner ; let q := p"
-    ∷ codes "; if true then x := inner else x := inner fi ; for p in ports ( true ) do x := inner od move none"
+    ∷ (codes "= inner and inner != inner and inner < inner "
+    ++ codes "and inner <= inner and inner > inner and inner >= inner")
+    ∷ (codes "do x := - 1 + x - p . x + count p in ports ( true ) + dir "
+    ++ codes "p + peer_dir p + inner + mod6 ( x ) ; p . x := inner ; let q := p")
+    ∷ (codes "; if true then x := inner else x := inner fi ; "
+    ++ codes "for p in ports ( true ) do x := inner od move none")
     ∷ codes "action b when true move expand p action c when true move contract head"
     ∷ codes "action d when true move push p action e when true move pull p"
     ∷ codes "end" ∷ [])
@@ -105,7 +109,8 @@ pub record TreesAreRead : Type 0 where
       (tree.stmts (tree.let_be (here 2 (codes "q")) (tree.bound (here 4 (codes "p")))
       ∷ tree.put (here 6 (codes "x")) (sum_of_term (tree.number (record { value = 7; line = 8 }))) ∷ []))
   -- what may be left out
-  pub nothing : IsRead IsProgram without_lines (codes "program end") (record { guard = false; vars = []; actions = [] })
+  pub nothing : IsRead IsProgram without_lines (codes "program end")
+      (record { guard = false; vars = []; actions = [] })
   pub little : IsRead IsProgram without_lines (codes "program action a when true move none end")
       (record { guard = false; vars = []; actions = action (codes "a") yes [] tree.no_move ∷ [] })
 
@@ -269,7 +274,8 @@ expression_levels =
     ∷ limit (codes "linked turn turn p 1 1") TooDeep 4 (codes "linked turn turn turn p 1 1 1")
     ∷ limit (codes "not linked turn p 1") TooDeep 4 (codes "not linked turn turn p 1 1")
     ∷ limit (codes "mod6 ( mod6 ( 1 ) ) = 1") TooDeep 6 (codes "mod6 ( mod6 ( mod6 ( 1 ) ) ) = 1")
-    ∷ limit (codes "mod6 ( count p in ports ( true ) ) = 1") TooDeep 8 (codes "not mod6 ( count p in ports ( true ) ) = 1")
+    ∷ limit (codes "mod6 ( count p in ports ( true ) ) = 1") TooDeep 8
+    (codes "not mod6 ( count p in ports ( true ) ) = 1")
     ∷ limit (codes "turn first p in ports ( true ) 1 . x = 1") TooDeep 7
     (codes "turn turn first p in ports ( true ) 1 1 . x = 1")
     ∷ limit (codes "not not true and not not true") TooDeep 6 (codes "not true and not not not true")
@@ -291,7 +297,8 @@ statement_levels =
     (codes "for p in ports ( true ) do if true then if true then x := 1 fi fi od")
     ∷ limit (codes "let q := turn turn p 1 1") TooDeep 6 (codes "let q := turn turn turn p 1 1 1")
     ∷ limit (codes "turn turn p 1 1 . x := 1") TooDeep 3 (codes "turn turn turn p 1 1 1 . x := 1")
-    ∷ limit (codes "x := 1 ; if not true then y := 1 fi") TooDeep 7 (codes "x := 1 ; if not not true then y := 1 fi")
+    ∷ limit (codes "x := 1 ; if not true then y := 1 fi") TooDeep 7
+    (codes "x := 1 ; if not not true then y := 1 fi")
     ∷ []
 
 -- two names in an expression, by each binding
@@ -308,7 +315,8 @@ expression_names =
     ∷ []
 
 -- Two names in statements.
--- A name that `let` binds is in force from the next statement to the end of its list, one that `for` binds up to `od`.
+-- A name that `let` binds is in force from the next statement to the end of its list,
+-- one that `for` binds up to `od`.
 abbrev pub statement_names : List Limit
 statement_names =
     limit (codes "let p := head 0 ; let q := head 1") TooMany 14
@@ -317,7 +325,8 @@ statement_names =
     (codes "let p := head 0 ; let q := head 1 ; x := count r in ports ( true )")
     ∷ limit (codes "for p in ports ( any q in ports ( true ) ) do x := 1 od") TooMany 12
     (codes "for p in ports ( any q in ports ( any r in ports ( true ) ) ) do x := 1 od")
-    ∷ limit (codes "for p in ports ( true ) do let q := p od ; for p in ports ( true ) do let q := p od") TooMany 15
+    ∷ limit
+    (codes "for p in ports ( true ) do let q := p od ; for p in ports ( true ) do let q := p od") TooMany 15
     (codes "for p in ports ( true ) do let q := p ; let r := p od")
     ∷ limit (codes "if true then let p := head 0 ; let q := p fi ; let p := head 0 ; let q := p") TooMany 16
     (codes "let p := head 0 ; if true then let q := p ; let r := p fi")

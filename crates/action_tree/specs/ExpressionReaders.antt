@@ -1,4 +1,5 @@
--- Readers of expressions, by the role of the next token. What stands one level deeper is read by the readers of one level less.
+-- Readers of expressions, by the role of the next token.
+-- What stands one level deeper is read by the readers of one level less.
 use Rattle.std.specs.Prelude.{ℕ, zero, suc, Bool, true, false, if◌then◌else◌, Option, None}
 use Rattle.text_tokens.specs.declared.refusal.RefusalKind.{RefusalKind}
 use Rattle.text_tokens.specs.Text.{Lexeme}
@@ -57,7 +58,8 @@ pub record Readers : Type 0 where
   pub unit : Reader Guard
   pub expr : Reader Guard
 
--- Where n more levels may be opened and so many more names bound. `below` are the readers of one level less, by the names.
+-- Where n more levels may be opened and so many more names bound.
+-- `below` are the readers of one level less, by the names.
 unfoldable pub a_selection : ℕ → ℕ → (ℕ → Readers) → Reader Selection
 a_selection n left below = do
   v ← one_within (is_a AName) (bound_at left)
@@ -70,7 +72,8 @@ a_selection n left below = do
 
 abbrev pub port_by : ℕ → ℕ → (ℕ → Readers) → Role → Reader PortExpr
 port_by n left below AName = one (is_a AName) >>= λ v. pure (bound (as_name v))
-port_by n left below EndWord = one (is_a EndWord) >>= λ e. one is_dirterm >>= λ d. pure (at_end (as_end e) (as_dirterm d))
+port_by n left below EndWord =
+    one (is_a EndWord) >>= λ e. one is_dirterm >>= λ d. pure (at_end (as_end e) (as_dirterm d))
 port_by n left below TurnWord =
     opening_token n (is_a TurnWord) >>= λ t.
     (below left).port >>= λ p. one (is_a ANumber) >>= λ m. pure (turned p (as_literal m))
@@ -88,17 +91,20 @@ member p = one (is_a DotSign) >>= λ d. one (is_a AName) >>= λ v. pure (of_port
 -- a name is a variable, or a port where a dot comes behind it
 abbrev pub term_by : ℕ → ℕ → (ℕ → Readers) → Role → Reader Term
 term_by n left below ANumber = one (is_a ANumber) >>= λ m. pure (number (as_literal m))
-term_by n left below AName = one (is_a AName) >>= λ v. optional (is_a DotSign) (own (as_name v)) (member (bound (as_name v)))
+term_by n left below AName =
+    one (is_a AName) >>= λ v. optional (is_a DotSign) (own (as_name v)) (member (bound (as_name v)))
 term_by n left below EndWord = a_port n left below >>= member
 term_by n left below TurnWord = a_port n left below >>= member
 term_by n left below FirstWord = a_port n left below >>= member
 term_by n left below CountWord =
     one (is_a CountWord) >>= λ t. a_selection n left below >>= λ c. pure (count c.name c.set c.guard)
-term_by n left below SideWord = one (is_a SideWord) >>= λ t. a_port n left below >>= λ p. pure (direction (as_side t) p)
+term_by n left below SideWord =
+    one (is_a SideWord) >>= λ t. a_port n left below >>= λ p. pure (direction (as_side t) p)
 term_by n left below InnerWord = one (is_a InnerWord) >>= λ t. pure inner
 term_by n left below Mod6Word =
     one (is_a Mod6Word) >>= λ t.
-    opening_token n (is_a OpenSign) >>= λ o. (below left).sum >>= λ s. one (is_a CloseSign) >>= λ c. pure (mod6 s)
+    opening_token n (is_a OpenSign) >>= λ o. (below left).sum >>= λ s.
+    one (is_a CloseSign) >>= λ c. pure (mod6 s)
 term_by n left below _ = refuse
 
 unfoldable pub a_term : ℕ → ℕ → (ℕ → Readers) → Reader Term
@@ -119,7 +125,8 @@ part_in n left below sign room =
 unfoldable pub a_sum : ℕ → ℕ → (ℕ → Readers) → Reader Sum
 a_sum n left below =
     a_minus >>= λ minus.
-    chained (a_term n left below) is_plus_or_minus (part_in n left below) (λ room p. less room) (λ t. most_further)
+    chained (a_term n left below) is_plus_or_minus
+    (part_in n left below) (λ room p. less room) (λ t. most_further)
     (λ t ps. term_then minus t (terms ps))
 
 abbrev pub a_comparison : ℕ → ℕ → (ℕ → Readers) → Reader Guard
@@ -132,7 +139,8 @@ a_test n left below = one is_test >>= λ t. a_port n left below >>= λ p. pure (
 
 abbrev pub unit_by : ℕ → ℕ → (ℕ → Readers) → Role → Reader Guard
 unit_by n left below AtomWord = one (is_a AtomWord) >>= λ t. pure (atom (as_atom t))
-unit_by n left below NotWord = opening_token n (is_a NotWord) >>= λ t. (below left).unit >>= λ g. pure (negation g)
+unit_by n left below NotWord =
+    opening_token n (is_a NotWord) >>= λ t. (below left).unit >>= λ g. pure (negation g)
 unit_by n left below OpenSign =
     opening_token n (is_a OpenSign) >>= λ o. (below left).expr >>= λ g. one (is_a CloseSign) >>= λ c. pure g
 unit_by n left below QuantifierWord =
@@ -147,20 +155,24 @@ a_unit n left below = by_role role (unit_by n left below)
 
 -- an element behind `and`, where so many more may come
 abbrev pub unit_in : ℕ → ℕ → (ℕ → Readers) → Lexeme → ℕ → Reader Guard
-unit_in n left below sign room = limited (λ t. begins_unit (role t)) (level_limit n) room (a_unit n left below)
+unit_in n left below sign room =
+    limited (λ t. begins_unit (role t)) (level_limit n) room (a_unit n left below)
 
 unfoldable pub a_conj : ℕ → ℕ → (ℕ → Readers) → Reader Guard
 a_conj n left below =
-    chained (a_unit n left below) (is_a AndWord) (unit_in n left below) (λ room g. less room) (λ g. most_further)
+    chained (a_unit n left below) (is_a AndWord)
+    (unit_in n left below) (λ room g. less room) (λ g. most_further)
     (λ g gs. all_of g (guards gs))
 
 -- and behind `or`
 abbrev pub conj_in : ℕ → ℕ → (ℕ → Readers) → Lexeme → ℕ → Reader Guard
-conj_in n left below sign room = limited (λ t. begins_unit (role t)) (level_limit n) room (a_conj n left below)
+conj_in n left below sign room =
+    limited (λ t. begins_unit (role t)) (level_limit n) room (a_conj n left below)
 
 unfoldable pub an_expr : ℕ → ℕ → (ℕ → Readers) → Reader Guard
 an_expr n left below =
-    chained (a_conj n left below) (is_a OrWord) (conj_in n left below) (λ room g. less room) (λ g. most_further)
+    chained (a_conj n left below) (is_a OrWord)
+    (conj_in n left below) (λ room g. less room) (λ g. most_further)
     (λ g gs. any_of g (guards gs))
 
 -- ---- all levels

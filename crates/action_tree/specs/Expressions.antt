@@ -1,4 +1,5 @@
--- The grammar of expressions: ports, sums and guards. It is written without the limits, which are symbols of its texts.
+-- The grammar of expressions: ports, sums and guards.
+-- It is written without the limits, which are symbols of its texts.
 use Rattle.std.specs.Prelude.{ℕ, zero, suc, Bool, true, false, List, [], ◌++◌, Option, Some, None}
 use Rattle.text_tokens.specs.declared.refusal.RefusalKind.{RefusalKind}
 use Rattle.text_tokens.specs.declared.refusal.RefusalKind.TheVariants.{TooMany}
@@ -47,10 +48,12 @@ pub record Selection : Type 0 where
 abbrev pub selection : Lexeme → Lexeme → Guard → Selection
 selection v s g = record { name = as_name v; set = as_set s; guard = g }
 
--- Where n more levels may be opened, and so many more names may be bound. Lists go on with room for so many more elements.
+-- Where n more levels may be opened, and so many more names may be bound.
+-- Lists go on with room for so many more elements.
 mutual
   pub data IsPort : ℕ → ℕ → List Symbol → PortExpr → Type 0 where
-    is_bound : {n left : ℕ} {xs : List Symbol} {v : Lexeme} → IsA AName xs v → IsPort n left xs (bound (as_name v))
+    is_bound : {n left : ℕ} {xs : List Symbol} {v : Lexeme}
+        → IsA AName xs v → IsPort n left xs (bound (as_name v))
     is_end : {n left : ℕ} {xs ys : List Symbol} {e d : Lexeme}
         → IsA EndWord xs e
         → IsOne is_dirterm no_limit ys d
@@ -77,8 +80,10 @@ mutual
         → IsSelection n left (vs ++ (is ++ (ss ++ (os ++ (es ++ cs))))) (selection v s g)
 
   pub data IsTerm : ℕ → ℕ → List Symbol → Term → Type 0 where
-    is_number : {n left : ℕ} {xs : List Symbol} {m : Lexeme} → IsA ANumber xs m → IsTerm n left xs (number (as_literal m))
-    is_own : {n left : ℕ} {xs : List Symbol} {v : Lexeme} → IsA AName xs v → IsTerm n left xs (own (as_name v))
+    is_number : {n left : ℕ} {xs : List Symbol} {m : Lexeme}
+        → IsA ANumber xs m → IsTerm n left xs (number (as_literal m))
+    is_own : {n left : ℕ} {xs : List Symbol} {v : Lexeme}
+        → IsA AName xs v → IsTerm n left xs (own (as_name v))
     is_of_port : {n left : ℕ} {xs ys zs : List Symbol} {d v : Lexeme} {p : PortExpr}
         → IsPort n left xs p
         → IsA DotSign ys d
@@ -117,7 +122,8 @@ mutual
         → IsTerms n left room ((xs ++ limited_text room ys) ++ zs) (term_then (is_a MinusSign u) t ts)
 
   pub data IsUnit : ℕ → ℕ → List Symbol → Guard → Type 0 where
-    is_atom : {n left : ℕ} {xs : List Symbol} {t : Lexeme} → IsA AtomWord xs t → IsUnit n left xs (atom (as_atom t))
+    is_atom : {n left : ℕ} {xs : List Symbol} {t : Lexeme}
+        → IsA AtomWord xs t → IsUnit n left xs (atom (as_atom t))
     is_not : {n left : ℕ} {xs ys : List Symbol} {t : Lexeme} {g : Guard}
         → Opens NotWord n xs t
         → IsUnit (less n) left ys g

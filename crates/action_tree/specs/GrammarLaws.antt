@@ -24,16 +24,19 @@ WordsAreReserved = map (λ e. e.text) words ≡ reserved
 abbrev pub NamesAreNotReserved : Type 0
 NamesAreNotReserved = (t : Lexeme) → is_a AName t ≡ (is_kind Word t && not (is_reserved t.text))
 
--- however many levels and names are left, expressions and lists of statements say one thing of any tokens
+-- however many levels and names are left, expressions and lists
+-- of statements say one thing of any tokens
 abbrev pub ExpressionsAreDecided : Type 0
 ExpressionsAreDecided = (n left : ℕ) → IsDecided (IsExpr n left)
 
 abbrev pub StatementsAreDecided : Type 0
 StatementsAreDecided = (n left : ℕ) → IsDecided (IsStmts n left)
 
--- A text within its limits gives a tree that is writable, if its tokens are such as a text can have.
+-- A text within its limits gives a tree that is writable,
+-- if its tokens are such as a text can have.
 abbrev pub TextsGiveWritable : Type 0
-TextsGiveWritable = (ts rest : List Lexeme) (p : Program) → AreCut ts → IsText IsProgram ts p rest → is_writable p ≡ true
+TextsGiveWritable =
+    (ts rest : List Lexeme) (p : Program) → AreCut ts → IsText IsProgram ts p rest → is_writable p ≡ true
 
 -- as those of bytes are
 abbrev pub BytesGiveWritable : Type 0

@@ -21,7 +21,8 @@ abbrev pub WordsAreTokens : Type 0
 WordsAreTokens = (text : List ℕ) → is_word text ≡ true → Cuts Word text [] × (length text ≤ most_bytes Word)
 
 abbrev pub TokensAreWords : Type 0
-TokensAreWords = (text rest : List ℕ) → Cuts Word text rest → length text ≤ most_bytes Word → is_word text ≡ true
+TokensAreWords =
+    (text rest : List ℕ) → Cuts Word text rest → length text ≤ most_bytes Word → is_word text ≡ true
 
 -- the shipped programs, and one of every form
 abbrev pub SamplesAreWritable : Type 0

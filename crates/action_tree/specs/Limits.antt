@@ -9,7 +9,8 @@ most_levels = 32
 abbrev pub most_names : ℕ
 most_names = 4
 
--- of the elements of an `and` or an `or`, the terms of a sum, the statements of a list; and of those behind the first one
+-- of the elements of an `and` or an `or`, the terms of a sum, the statements of a list;
+-- and of those behind the first one
 abbrev pub most_elements : ℕ
 most_elements = 64
 

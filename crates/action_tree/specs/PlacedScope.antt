@@ -6,4 +6,5 @@ use Rattle.action_tree.specs.Scopes.{Scope, names_of_vars}
 use Rattle.action_tree.specs.Views.{var_of}
 
 abbrev pub placed_scope : code.Scope → Scope
-placed_scope sc = record { vars = names_of_vars (map var_of sc.vars.now); bound = map (λ name. name.bytes) sc.bound.items }
+placed_scope sc =
+    record { vars = names_of_vars (map var_of sc.vars.now); bound = map (λ name. name.bytes) sc.bound.items }

@@ -1,5 +1,6 @@
--- The place that each name of a program has in the code: of a variable, among the variables; of a name that stands for a port,
--- among the names in force there. The place is how many names come before the first that is spelled so, of all of them if none is.
+-- The place that each name of a program has in the code: of a variable, among the variables;
+-- of a name that stands for a port, among the names in force there.
+-- The place is how many names come before the first that is spelled so, of all of them if none is.
 -- The trees know nothing of places, so this is asked of the values of the code.
 use Rattle.std.specs.Prelude.{ℕ, Bool, true, ◌&&◌, ◌==◌, List, [], ◌∷◌, map}
 use Rattle.std.specs.List.{list_all, position_or_len}
@@ -34,7 +35,8 @@ abbrev pub dirterm_placed : directions.DirTerm → Scope → Bool
 dirterm_placed (dirterm.Number n) sc = true
 dirterm_placed (dirterm.Own w) sc = is_at_place sc.vars w
 
--- ---- guards, ports and sums: one level of each, where it is known of what is inside whether its names have their places
+-- ---- guards, ports and sums: one level of each, where it is known of what is inside
+-- whether its names have their places
 
 -- whether the names of a part have their places, by what is known where it stands
 abbrev pub Placing : Type 0
@@ -80,19 +82,24 @@ abbrev pub sum_placing : Sum-F Placing Placing Placing Placing Placing → Placi
 sum_placing s sc = list_all (λ placed. placed sc) s.parts.items
 
 abbrev pub guard_placed : guard.Guard → Placing
-guard_placed = fold-Guard Placing Placing Placing Placing Placing guard_placing port_placing term_placing part_placing sum_placing
+guard_placed = fold-Guard Placing Placing Placing Placing Placing
+    guard_placing port_placing term_placing part_placing sum_placing
 
 abbrev pub port_placed : port.PortExpr → Placing
-port_placed = fold-PortExpr Placing Placing Placing Placing Placing guard_placing port_placing term_placing part_placing sum_placing
+port_placed = fold-PortExpr Placing Placing Placing Placing Placing
+    guard_placing port_placing term_placing part_placing sum_placing
 
 abbrev pub term_placed : term.Term → Placing
-term_placed = fold-Term Placing Placing Placing Placing Placing guard_placing port_placing term_placing part_placing sum_placing
+term_placed = fold-Term Placing Placing Placing Placing Placing
+    guard_placing port_placing term_placing part_placing sum_placing
 
 abbrev pub part_placed : part.Part → Placing
-part_placed = fold-Part Placing Placing Placing Placing Placing guard_placing port_placing term_placing part_placing sum_placing
+part_placed = fold-Part Placing Placing Placing Placing Placing
+    guard_placing port_placing term_placing part_placing sum_placing
 
 abbrev pub sum_placed : sum.Sum → Placing
-sum_placed = fold-Sum Placing Placing Placing Placing Placing guard_placing port_placing term_placing part_placing sum_placing
+sum_placed = fold-Sum Placing Placing Placing Placing Placing
+    guard_placing port_placing term_placing part_placing sum_placing
 
 -- each of a list
 abbrev pub guards_placed : List guard.Guard → Placing
@@ -114,15 +121,23 @@ in_turn [] sc = true
 in_turn (s ∷ ss) sc = s.placed sc && in_turn ss (s.behind sc)
 
 abbrev pub stmt_placing : Stmt-F StmtPlacing → StmtPlacing
-stmt_placing (Stmt-F.Put w s) = record { placed = λ sc. is_at_place sc.vars w && sum_placed s sc; behind = λ sc. sc }
+stmt_placing (Stmt-F.Put w s) =
+    record { placed = λ sc. is_at_place sc.vars w && sum_placed s sc; behind = λ sc. sc }
 stmt_placing (Stmt-F.PutOf p w s) =
-    record { placed = λ sc. port_placed p sc && (is_at_place sc.vars w && sum_placed s sc); behind = λ sc. sc }
+    record {
+      placed = λ sc. port_placed p sc && (is_at_place sc.vars w && sum_placed s sc);
+      behind = λ sc. sc;
+    }
 stmt_placing (Stmt-F.Let w p) = record { placed = port_placed p; behind = λ sc. scope_with sc (name_of w) }
 stmt_placing (Stmt-F.If g v w) =
-    record { placed = λ sc. guard_placed g sc && (in_turn v.items sc && in_turn w.items sc); behind = λ sc. sc }
+    record {
+      placed = λ sc. guard_placed g sc && (in_turn v.items sc && in_turn w.items sc);
+      behind = λ sc. sc;
+    }
 stmt_placing (Stmt-F.For w s g v) =
     record {
-      placed = λ sc. guard_placed g (scope_with sc (name_of w)) && in_turn v.items (scope_with sc (name_of w));
+      placed = λ sc.
+          guard_placed g (scope_with sc (name_of w)) && in_turn v.items (scope_with sc (name_of w));
       behind = λ sc. sc;
     }
 

@@ -1,5 +1,6 @@
--- Which trees the productions of the grammar give, one rule for each form. Two numbers say what a text has left where the form
--- stands: how many more levels may be opened, and how many more names may be bound.
+-- Which trees the productions of the grammar give, one rule for each form.
+-- Two numbers say what a text has left where the form stands: how many more levels may be opened,
+-- and how many more names may be bound.
 use Rattle.std.specs.Prelude.{◌≡◌, ℕ, suc, Bool, true, List, [], ◌∷◌}
 use Rattle.amoebot_state.specs.declared.bot.End.{End}
 use Rattle.amoebot_state.specs.Limits.{most_vars}
@@ -66,7 +67,8 @@ mutual
         → OfExpr n left g
         → OfUnit (suc n) (suc left) (quantified q v s g)
     asked : {n left : ℕ} {p : PortExpr} (t : PortTest) → OfPort n left p → OfUnit n left (tested t p)
-    compared : {n left : ℕ} {a b : Sum} (c : Cmp) → OfSum n left a → OfSum n left b → OfUnit n left (comparison a c b)
+    compared : {n left : ℕ} {a b : Sum} (c : Cmp) → OfSum n left a
+        → OfSum n left b → OfUnit n left (comparison a c b)
 
   pub data OfSum : ℕ → ℕ → Sum → Type 0 where
     added : {n left : ℕ} {t : Term} {ts : Sum} (minus : Bool)
@@ -84,7 +86,8 @@ mutual
   pub data OfTerm : ℕ → ℕ → Term → Type 0 where
     a_number : {n left : ℕ} {m : Literal} → IsNumberToken m → OfTerm n left (number m)
     own_name : {n left : ℕ} {v : Name} → IsName v → OfTerm n left (own v)
-    port_name : {n left : ℕ} {p : PortExpr} {v : Name} → OfPort n left p → IsName v → OfTerm n left (of_port p v)
+    port_name : {n left : ℕ} {p : PortExpr} {v : Name}
+        → OfPort n left p → IsName v → OfTerm n left (of_port p v)
     counted : {n left : ℕ} {v : Name} {g : Guard} (s : PortSet)
         → IsName v
         → OfExpr n left g
@@ -122,7 +125,8 @@ mutual
         → IsName v
         → OfSum n left s
         → OfStmt n left (put_of p v s)
-    let_name : {n left : ℕ} {v : Name} {p : PortExpr} → IsName v → OfPort n (suc left) p → OfStmt n (suc left) (let_be v p)
+    let_name : {n left : ℕ} {v : Name} {p : PortExpr} → IsName v
+        → OfPort n (suc left) p → OfStmt n (suc left) (let_be v p)
     if_fi : {n left : ℕ} {g : Guard} {ss es : Stmts}
         → OfExpr n left g
         → OfStmts n left ss

@@ -14,8 +14,10 @@ use Rattle.action_tree.specs.Programs.{parsed_action, parsed_var, parsed_program
 
 abbrev pub move_by : ℕ → ℕ → Role → Reader Move
 move_by n left NoneWord = one (is_a NoneWord) >>= λ t. pure no_move
-move_by n left ThroughWord = one (is_a ThroughWord) >>= λ t. port_at n left >>= λ p. pure (through (as_port_move t) p)
-move_by n left ContractWord = one (is_a ContractWord) >>= λ t. one (is_a EndWord) >>= λ e. pure (contract (as_end e))
+move_by n left ThroughWord =
+    one (is_a ThroughWord) >>= λ t. port_at n left >>= λ p. pure (through (as_port_move t) p)
+move_by n left ContractWord =
+    one (is_a ContractWord) >>= λ t. one (is_a EndWord) >>= λ e. pure (contract (as_end e))
 move_by n left _ = refuse
 
 unfoldable pub a_move : ℕ → ℕ → Reader Move
@@ -38,10 +40,12 @@ an_action n left = do
   pure (parsed_action v g body moved)
 
 unfoldable pub a_var : Reader Var
-a_var = one (is_a VarWord) >>= λ t. one (is_a AName) >>= λ v. one (is_a ANumber) >>= λ m. pure (parsed_var v m)
+a_var = one (is_a VarWord) >>= λ t. one (is_a AName) >>= λ v.
+    one (is_a ANumber) >>= λ m. pure (parsed_var v m)
 
 unfoldable pub a_guarded : Reader Bool
-a_guarded = optional (is_a GuardWord) false (one (is_a GuardWord) >>= λ g. one (is_a SwitchWord) >>= λ t. pure (as_switch t))
+a_guarded = optional (is_a GuardWord) false (one (is_a GuardWord) >>= λ g.
+    one (is_a SwitchWord) >>= λ t. pure (as_switch t))
 
 unfoldable pub a_program : Reader Program
 a_program = do

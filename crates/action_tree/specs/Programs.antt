@@ -37,7 +37,8 @@ IsAction n left =
     Then (IsA AName) (λ v.
     Then (IsA WhenWord) (λ w.
     Then (IsExpr n left) (λ g.
-    Then (IsBody n left) (λ body. Made (IsMovement n (names_left_after_all left body)) (parsed_action v g body))))))
+    Then (IsBody n left) (λ body.
+    Made (IsMovement n (names_left_after_all left body)) (parsed_action v g body))))))
 
 abbrev pub parsed_var : Lexeme → Lexeme → Var
 parsed_var v m = record { name = as_name v; max = as_literal m }

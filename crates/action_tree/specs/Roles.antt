@@ -50,9 +50,11 @@ words =
     ∷ entry (codes "count") CountWord ∷ entry (codes "first") FirstWord ∷ entry (codes "head") EndWord
     ∷ entry (codes "tail") EndWord ∷ entry (codes "turn") TurnWord
     ∷ entry (codes "dir") SideWord ∷ entry (codes "peer_dir") SideWord ∷ entry (codes "peer_head") TestWord
-    ∷ entry (codes "peer_expanded") TestWord ∷ entry (codes "at_head") TestWord ∷ entry (codes "linked") TestWord
+    ∷ entry (codes "peer_expanded") TestWord
+    ∷ entry (codes "at_head") TestWord ∷ entry (codes "linked") TestWord
     ∷ entry (codes "inner") InnerWord ∷ entry (codes "mod6") Mod6Word
-    ∷ entry (codes "none") NoneWord ∷ entry (codes "expand") ThroughWord ∷ entry (codes "contract") ContractWord
+    ∷ entry (codes "none") NoneWord ∷ entry (codes "expand") ThroughWord
+    ∷ entry (codes "contract") ContractWord
     ∷ entry (codes "push") ThroughWord ∷ entry (codes "pull") ThroughWord
     ∷ []
 
@@ -80,7 +82,8 @@ same_role = sameb the_type
 abbrev pub is_a : Role → Lexeme → Bool
 is_a r t = same_role (role t) r
 
--- what is asked of a port; a set of ports; a number or a variable that is a direction; a sign between the terms of a sum
+-- what is asked of a port; a set of ports; a number or a variable that is a direction;
+-- a sign between the terms of a sum
 abbrev pub is_test : Lexeme → Bool
 is_test t = is_a TestWord t || is_a FreeWord t
 
@@ -117,7 +120,8 @@ end_of_word text = look_up Head (entry (codes "tail") Tail ∷ []) text
 abbrev pub atom_by : List ℕ → Atom
 atom_by text =
     look_up always
-    (entry (codes "false") never ∷ entry (codes "contracted") contracted ∷ entry (codes "expanded") expanded ∷ [])
+    (entry (codes "false") never ∷ entry (codes "contracted") contracted
+    ∷ entry (codes "expanded") expanded ∷ [])
     text
 
 abbrev pub quantifier_by : List ℕ → Quantifier

@@ -5,7 +5,8 @@ use Rattle.std.specs.Str.{bytes_eq}
 use Rattle.action_tree.specs.Limits.{most_names}
 use Rattle.action_tree.specs.Trees.{Name, Stmt, let_be, Stmts, no_stmts, stmt_then, Var, Program}
 
--- the variables of the program, and the names in force, which stand for ports, each in the order of the text
+-- the variables of the program, and the names in force, which stand for ports,
+-- each in the order of the text
 pub record Scope : Type 0 where
   pub vars : List (List ℕ)
   pub bound : List (List ℕ)
@@ -21,7 +22,8 @@ scope_with sc v = record { vars = sc.vars; bound = sc.bound ++ v.text ∷ [] }
 abbrev pub HasRoom : Scope → ℕ → Type 0
 HasRoom sc more = length sc.bound + more ≤ most_names
 
--- the names known behind a statement of a list, and behind all of them: a `let` binds its name from there on
+-- the names known behind a statement of a list, and behind all of them:
+-- a `let` binds its name from there on
 abbrev pub scope_after : Scope → Stmt → Scope
 scope_after sc (let_be v p) = scope_with sc v
 scope_after sc _ = sc

@@ -71,7 +71,8 @@ line = record {
   guard = false;
   vars = [];
   actions =
-      action (codes "out") (and (atom tree.contracted ∷ tested tree.free head_0 ∷ [])) [] (through expand head_0)
+      action (codes "out") (and (atom tree.contracted ∷ tested tree.free head_0 ∷ []))
+      [] (through expand head_0)
       ∷ action (codes "follow_up") (atom tree.expanded) [] (contract Tail)
       ∷ [];
 }
@@ -123,7 +124,8 @@ hexagon = record {
       ∷ action (codes "retire") (and (atom tree.contracted ∷ own_is (codes "state") 3
       ∷ some_port (and (state_is p 1 4 ∷ points_here (codes "aim") ∷ [])) ∷ []))
       (let_be (example_name (codes "q")) (first_port (and (state_is p 1 4
-      ∷ negation (and (tested tree.linked (turned p (literal 5)) ∷ state_is (turned p (literal 5)) 1 4 ∷ [])) ∷ [])))
+      ∷ negation
+      (and (tested tree.linked (turned p (literal 5)) ∷ state_is (turned p (literal 5)) 1 4 ∷ [])) ∷ [])))
       ∷ put (example_name (codes "aim")) (sum_of_term (direction own_side (turned q (literal 5))))
       ∷ set_to (codes "state") 4 ∷ []) no_move
       ∷ action (codes "go") (and (atom tree.contracted ∷ own_is (codes "state") 3
@@ -131,10 +133,12 @@ hexagon = record {
       (through expand (turned
       (first_port (and (state_is p 1 4 ∷ tested tree.free (turned p (literal 1)) ∷ []))) (literal 1)))
       ∷ action (codes "drag")
-      (and (atom tree.expanded ∷ in_state 2 3 ∷ negation (some_port (there_is p (codes "state") 0)) ∷ some_port
+      (and (atom tree.expanded ∷ in_state 2 3
+      ∷ negation (some_port (there_is p (codes "state") 0)) ∷ some_port
       (and (negation (tested tree.at_head p) ∷ there_is p (codes "state") 2
       ∷ negation (tested tree.peer_expanded p) ∷ points_here (codes "parent") ∷ [])) ∷ []))
-      (let_be (example_name (codes "q")) (first_port (and (negation (tested tree.at_head p) ∷ there_is p (codes "state") 2
+      (let_be (example_name (codes "q"))
+      (first_port (and (negation (tested tree.at_head p) ∷ there_is p (codes "state") 2
       ∷ negation (tested tree.peer_expanded p) ∷ points_here (codes "parent") ∷ [])))
       ∷ put_of q (example_name (codes "parent")) (sum_of_term (mod6 (term_then false inner
       (term_then true (direction own_side q)
@@ -169,7 +173,8 @@ abbrev pub every_comparison : List Guard
 every_comparison =
     comparison every_sum Eq (sum_of_term inner) ∷ comparison (sum_of_term inner) Ne (sum_of_term inner)
     ∷ comparison (sum_of_term inner) Lt (sum_of_term inner)
-    ∷ comparison (sum_of_term inner) Le (sum_of_term inner) ∷ comparison (sum_of_term inner) Gt (sum_of_term inner)
+    ∷ comparison (sum_of_term inner) Le (sum_of_term inner)
+    ∷ comparison (sum_of_term inner) Gt (sum_of_term inner)
     ∷ comparison (sum_of_term inner) Ge (sum_of_term inner) ∷ []
 
 abbrev pub every_guard : Guard

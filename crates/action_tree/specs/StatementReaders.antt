@@ -25,7 +25,8 @@ begins_stmt _ = false
 abbrev pub put_member : ℕ → ℕ → PortExpr → Reader Stmt
 put_member n left p =
     one (is_a DotSign) >>= λ d.
-    one (is_a AName) >>= λ v. one (is_a BecomesSign) >>= λ b. sum_at n left >>= λ s. pure (put_of p (as_name v) s)
+    one (is_a AName) >>= λ v. one (is_a BecomesSign) >>= λ b.
+    sum_at n left >>= λ s. pure (put_of p (as_name v) s)
 
 -- behind a name, which is a variable, or the port of a neighbour where a dot comes behind it
 abbrev pub put_by : ℕ → ℕ → Lexeme → Role → Reader Stmt

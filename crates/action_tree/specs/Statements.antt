@@ -10,7 +10,8 @@ use Rattle.action_tree.specs.declared.role.Role.TheVariants.{AName, DotSign, Bec
 use Rattle.action_tree.specs.Roles.{as_name}
 use Rattle.action_tree.specs.Expressions.{IsA, Opens, Binds, limited_text, Selection, IsPort, IsSelection, IsSum, IsExpr}
 
--- A name that `let` binds is in force from the next statement on, one that `for` binds in its parenthesis and its statements.
+-- A name that `let` binds is in force from the next statement on,
+-- one that `for` binds in its parenthesis and its statements.
 mutual
   pub data IsStmt : ℕ → ℕ → List Symbol → Stmt → Type 0 where
     is_put : {n left : ℕ} {vs bs ss : List Symbol} {v b : Lexeme} {s : Sum}

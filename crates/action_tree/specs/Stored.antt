@@ -26,7 +26,8 @@ name_code =
     (λ p. record { text = p.0; line = p.1 }) (λ _. refl)
 
 abbrev literal_code : Coded Literal
-literal_code = code_by (ℕ × ℕ) (coded× coded_ℕ coded_ℕ) (λ n. (n.value, n.line)) (λ p. record { value = p.0; line = p.1 }) (λ _. refl)
+literal_code = code_by (ℕ × ℕ) (coded× coded_ℕ coded_ℕ) (λ n. (n.value, n.line))
+    (λ p. record { value = p.0; line = p.1 }) (λ _. refl)
 
 abbrev set_code : Coded PortSet
 set_code = sets.the_row.coded
@@ -119,7 +120,8 @@ abbrev mutual
       with_parts 4
       (gcons (quantifier_stored x0) (gcons (name_code.code x1) (gcons (set_code.code x2) (guard_stored x3))))
   guard_stored (tested x0 x1) = with_parts 5 (gcons (test_stored x0) (port_stored x1))
-  guard_stored (comparison x0 x1 x2) = with_parts 6 (gcons (sum_stored x0) (gcons (cmp_code.code x1) (sum_stored x2)))
+  guard_stored (comparison x0 x1 x2) =
+      with_parts 6 (gcons (sum_stored x0) (gcons (cmp_code.code x1) (sum_stored x2)))
 
   pub guards_stored : Guards → Gv
   guards_stored no_guards = with_parts 0 gnil
@@ -127,13 +129,15 @@ abbrev mutual
 
   pub sum_stored : Sum → Gv
   sum_stored no_terms = with_parts 0 gnil
-  sum_stored (term_then x0 x1 x2) = with_parts 1 (gcons (coded_bool.code x0) (gcons (term_stored x1) (sum_stored x2)))
+  sum_stored (term_then x0 x1 x2) =
+      with_parts 1 (gcons (coded_bool.code x0) (gcons (term_stored x1) (sum_stored x2)))
 
   pub term_stored : Term → Gv
   term_stored (number x) = with_parts 0 (literal_code.code x)
   term_stored (own x) = with_parts 1 (name_code.code x)
   term_stored (of_port x0 x1) = with_parts 2 (gcons (port_stored x0) (name_code.code x1))
-  term_stored (count x0 x1 x2) = with_parts 3 (gcons (name_code.code x0) (gcons (set_code.code x1) (guard_stored x2)))
+  term_stored (count x0 x1 x2) =
+      with_parts 3 (gcons (name_code.code x0) (gcons (set_code.code x1) (guard_stored x2)))
   term_stored (direction x0 x1) = with_parts 4 (gcons (side_stored x0) (port_stored x1))
   term_stored inner = with_parts 5 gnil
   term_stored (mod6 x) = with_parts 6 (sum_stored x)
@@ -142,7 +146,8 @@ abbrev mutual
   port_stored (bound x) = with_parts 0 (name_code.code x)
   port_stored (at_end x0 x1) = with_parts 1 (gcons (end_code.code x0) (dirterm_stored x1))
   port_stored (turned x0 x1) = with_parts 2 (gcons (port_stored x0) (literal_code.code x1))
-  port_stored (first x0 x1 x2) = with_parts 3 (gcons (name_code.code x0) (gcons (set_code.code x1) (guard_stored x2)))
+  port_stored (first x0 x1 x2) =
+      with_parts 3 (gcons (name_code.code x0) (gcons (set_code.code x1) (guard_stored x2)))
 
 mutual
   pub guard_told : (a b : Guard) → guard_stored a ≡ guard_stored b → a ≡ b
@@ -226,11 +231,14 @@ mutual
 abbrev mutual
   pub stmt_stored : Stmt → Gv
   stmt_stored (put x0 x1) = with_parts 0 (gcons (name_code.code x0) (sum_stored x1))
-  stmt_stored (put_of x0 x1 x2) = with_parts 1 (gcons (port_stored x0) (gcons (name_code.code x1) (sum_stored x2)))
+  stmt_stored (put_of x0 x1 x2) =
+      with_parts 1 (gcons (port_stored x0) (gcons (name_code.code x1) (sum_stored x2)))
   stmt_stored (let_be x0 x1) = with_parts 2 (gcons (name_code.code x0) (port_stored x1))
-  stmt_stored (if_then x0 x1 x2) = with_parts 3 (gcons (guard_stored x0) (gcons (stmts_stored x1) (stmts_stored x2)))
+  stmt_stored (if_then x0 x1 x2) =
+      with_parts 3 (gcons (guard_stored x0) (gcons (stmts_stored x1) (stmts_stored x2)))
   stmt_stored (for_each x0 x1 x2 x3) =
-      with_parts 4 (gcons (name_code.code x0) (gcons (set_code.code x1) (gcons (guard_stored x2) (stmts_stored x3))))
+      with_parts 4
+      (gcons (name_code.code x0) (gcons (set_code.code x1) (gcons (guard_stored x2) (stmts_stored x3))))
 
   pub stmts_stored : Stmts → Gv
   stmts_stored no_stmts = with_parts 0 gnil
@@ -306,11 +314,14 @@ var_code =
 
 abbrev action_code : Coded Action
 action_code =
-    code_by (Name × (Guard × (Stmts × Move))) (coded× name_code (coded× guard_code (coded× stmts_code move_code)))
+    code_by (Name × (Guard × (Stmts × Move)))
+    (coded× name_code (coded× guard_code (coded× stmts_code move_code)))
     (λ a. (a.name, (a.guard, (a.body, a.moved))))
     (λ p. record { name = p.0; guard = p.1.0; body = p.1.1.0; moved = p.1.1.1 }) (λ _. refl)
 
 abbrev pub program_code : Coded Program
 program_code =
-    code_by (Bool × (List Var × List Action)) (coded× coded_bool (coded× (coded_list var_code) (coded_list action_code)))
-    (λ p. (p.guard, (p.vars, p.actions))) (λ q. record { guard = q.0; vars = q.1.0; actions = q.1.1 }) (λ _. refl)
+    code_by (Bool × (List Var × List Action))
+    (coded× coded_bool (coded× (coded_list var_code) (coded_list action_code)))
+    (λ p. (p.guard, (p.vars, p.actions)))
+    (λ q. record { guard = q.0; vars = q.1.0; actions = q.1.1 }) (λ _. refl)

@@ -1,4 +1,5 @@
--- The trees of the language. Forms of one shape share a constructor, with a word that tells them apart.
+-- The trees of the language.
+-- Forms of one shape share a constructor, with a word that tells them apart.
 use Rattle.std.specs.Prelude.{ℕ, Bool, List, [], ◌∷◌}
 use Rattle.amoebot_state.specs.declared.bot.End.{End}
 use Rattle.action_tree.specs.declared.expression.PortSet.{PortSet}

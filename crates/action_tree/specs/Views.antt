@@ -1,4 +1,5 @@
--- The trees that values stand for. A `Vec` is seen as its list, a `Box` as what is in it, a word as its bytes.
+-- The trees that values stand for.
+-- A `Vec` is seen as its list, a `Box` as what is in it, a word as its bytes.
 use Rattle.std.specs.Prelude.{Bool, List, map}
 use Rattle.action_tree.specs.declared.word.Word.{Word}
 use Rattle.action_tree.specs.declared.word.Lit.{Lit}
@@ -73,21 +74,26 @@ abbrev pub sum_step : Sum-F tree.Guard tree.PortExpr tree.Term tree.Part tree.Su
 sum_step s = terms s.parts.items
 
 abbrev pub guard_of : guard.Guard → tree.Guard
-guard_of = fold-Guard tree.Guard tree.PortExpr tree.Term tree.Part tree.Sum guard_step port_step term_step part_step sum_step
+guard_of = fold-Guard tree.Guard tree.PortExpr tree.Term tree.Part
+    tree.Sum guard_step port_step term_step part_step sum_step
 
 abbrev pub port_of : port.PortExpr → tree.PortExpr
 port_of =
-    fold-PortExpr tree.Guard tree.PortExpr tree.Term tree.Part tree.Sum guard_step port_step term_step part_step
+    fold-PortExpr tree.Guard tree.PortExpr tree.Term tree.Part
+    tree.Sum guard_step port_step term_step part_step
     sum_step
 
 abbrev pub term_of : term.Term → tree.Term
-term_of = fold-Term tree.Guard tree.PortExpr tree.Term tree.Part tree.Sum guard_step port_step term_step part_step sum_step
+term_of = fold-Term tree.Guard tree.PortExpr tree.Term tree.Part
+    tree.Sum guard_step port_step term_step part_step sum_step
 
 abbrev pub part_of : part.Part → tree.Part
-part_of = fold-Part tree.Guard tree.PortExpr tree.Term tree.Part tree.Sum guard_step port_step term_step part_step sum_step
+part_of = fold-Part tree.Guard tree.PortExpr tree.Term tree.Part
+    tree.Sum guard_step port_step term_step part_step sum_step
 
 abbrev pub sum_of : sum.Sum → tree.Sum
-sum_of = fold-Sum tree.Guard tree.PortExpr tree.Term tree.Part tree.Sum guard_step port_step term_step part_step sum_step
+sum_of = fold-Sum tree.Guard tree.PortExpr tree.Term tree.Part
+    tree.Sum guard_step port_step term_step part_step sum_step
 
 -- a list of each
 abbrev pub guards_of : List guard.Guard → tree.Guards
@@ -125,7 +131,13 @@ var_of v = record { name = name_of v.name; max = literal_of v.max }
 
 abbrev pub action_of : Action → tree.Action
 action_of a =
-    record { name = name_of a.name; guard = guard_of a.guard; body = stmts_of a.body.items; moved = move_of a.moved }
+    record {
+      name = name_of a.name;
+      guard = guard_of a.guard;
+      body = stmts_of a.body.items;
+      moved = move_of a.moved;
+    }
 
 abbrev pub program_of : Bool → List Var → List Action → tree.Program
-program_of guarded vs actions = record { guard = guarded; vars = map var_of vs; actions = map action_of actions }
+program_of guarded vs actions =
+    record { guard = guarded; vars = map var_of vs; actions = map action_of actions }

@@ -8,11 +8,14 @@ use Rattle.text_tokens.specs.Text.{is_letter, is_word_byte, most_bytes}
 -- the words that are no names
 abbrev pub reserved : List (List ℕ)
 reserved =
-    codes "amoebot" ∷ codes "program" ∷ codes "guard" ∷ codes "on" ∷ codes "off" ∷ codes "var" ∷ codes "action"
+    codes "amoebot" ∷ codes "program" ∷ codes "guard"
+    ∷ codes "on" ∷ codes "off" ∷ codes "var" ∷ codes "action"
     ∷ codes "when" ∷ codes "do" ∷ codes "move" ∷ codes "end"
-    ∷ codes "if" ∷ codes "then" ∷ codes "else" ∷ codes "fi" ∷ codes "for" ∷ codes "od" ∷ codes "let" ∷ codes "in"
+    ∷ codes "if" ∷ codes "then" ∷ codes "else" ∷ codes "fi"
+    ∷ codes "for" ∷ codes "od" ∷ codes "let" ∷ codes "in"
     ∷ codes "ports" ∷ codes "free"
-    ∷ codes "true" ∷ codes "false" ∷ codes "contracted" ∷ codes "expanded" ∷ codes "not" ∷ codes "and" ∷ codes "or"
+    ∷ codes "true" ∷ codes "false" ∷ codes "contracted"
+    ∷ codes "expanded" ∷ codes "not" ∷ codes "and" ∷ codes "or"
     ∷ codes "any" ∷ codes "all" ∷ codes "count" ∷ codes "first"
     ∷ codes "head" ∷ codes "tail" ∷ codes "turn" ∷ codes "dir" ∷ codes "peer_dir" ∷ codes "peer_head"
     ∷ codes "peer_expanded" ∷ codes "at_head" ∷ codes "linked" ∷ codes "inner" ∷ codes "mod6"

@@ -1,6 +1,7 @@
--- Which trees the grammar gives within its limits, lines aside. Each family of trees has three measures here: how many levels are
--- open at once, at the least, in a text of the tree; how many names are in force at once; and whether its counts, names and numbers
--- are those of a text.
+-- Which trees the grammar gives within its limits, lines aside.
+-- Each family of trees has three measures here: how many levels are open at once, at the least,
+-- in a text of the tree; how many names are in force at once; and whether its counts,
+-- names and numbers are those of a text.
 use Rattle.std.specs.Prelude.{ℕ, suc, max, Bool, true, false, ◌&&◌, nat_le, length}
 use Rattle.std.specs.List.{list_all}
 use Rattle.amoebot_state.specs.Limits.{most_vars}
@@ -8,7 +9,8 @@ use Rattle.action_tree.specs.Trees.{Name, Literal, DirTerm, fixed, held, Guard, 
 use Rattle.action_tree.specs.Words.{is_name, has_few_digits}
 use Rattle.action_tree.specs.Limits.{most_levels, most_names, most_elements, most_actions}
 
--- ---- Levels. `(`, `not`, `turn`, `if` and `for` each open one, which lasts to the end of their construct.
+-- ---- Levels. `(`, `not`, `turn`, `if` and `for` each open one,
+-- which lasts to the end of their construct.
 
 -- it stands as it is among the elements of an `or`; of an `and`, or behind a `not`
 abbrev pub is_conj : Guard → Bool
@@ -124,7 +126,8 @@ abbrev pub with_let : Stmt → ℕ → ℕ
 with_let (let_be v p) names = suc names
 with_let _ names = names
 
--- A `for` binds its name in its parenthesis and in its statements. A list goes on with what has so many names.
+-- A `for` binds its name in its parenthesis and in its statements.
+-- A list goes on with what has so many names.
 abbrev mutual
   pub stmt_names : Stmt → ℕ
   stmt_names (put v s) = sum_names s
@@ -219,7 +222,8 @@ abbrev mutual
   is_stmt (put_of p v s) = is_port p && named v && is_sum s
   is_stmt (let_be v p) = named v && is_port p
   is_stmt (if_then g ss es) =
-      is_guard g && is_count_from 1 (stmt_count ss) && are_stmts ss && is_count_from 0 (stmt_count es) && are_stmts es
+      is_guard g && is_count_from 1 (stmt_count ss) && are_stmts ss
+      && is_count_from 0 (stmt_count es) && are_stmts es
   is_stmt (for_each v s g ss) = named v && is_guard g && is_count_from 1 (stmt_count ss) && are_stmts ss
 
   pub are_stmts : Stmts → Bool
@@ -239,7 +243,8 @@ is_var v = named v.name && numbered v.max
 -- an action without `do` has no statements
 abbrev pub is_action : Action → Bool
 is_action a =
-    named a.name && is_guard a.guard && is_count_from 0 (stmt_count a.body) && are_stmts a.body && is_move a.moved
+    named a.name && is_guard a.guard && is_count_from 0 (stmt_count a.body)
+    && are_stmts a.body && is_move a.moved
     && nat_le (action_levels a) most_levels && nat_le (action_names a) most_names
 
 -- some text of the grammar within its limits gives this tree

@@ -23,7 +23,8 @@ pub enum Cmp {
     Ge,
 }
 
-/// What is true or false of an amoebot and what it is shown. `And` and `Or` have at least two elements.
+/// What is true or false of an amoebot and what it is shown.
+/// `And` and `Or` have at least two elements.
 #[cycle(tree)]
 #[derive(Drop)]
 pub enum Guard {

@@ -6,8 +6,8 @@ ghost use Rattle.action_tree.specs.ProgramReaders.{a_program};
 ghost use Rattle.action_tree.specs.GrammarLaws.{WordsAreReserved, NamesAreNotReserved, ExpressionsAreDecided};
 ghost use Rattle.action_tree.specs.GrammarLaws.{StatementsAreDecided, TextsGiveWritable, BytesGiveWritable, LinesFollowText};
 
-/// Of any tokens the grammar says one thing: they are read as one program, or have one first fault. So does the grammar of
-/// expressions, and that of statements.
+/// Of any tokens the grammar says one thing: they are read as one program, or have one first fault.
+/// So does the grammar of expressions, and that of statements.
 pub fn program_is_decided()
     ensures program { IsDecided IsProgram }
     ensures expressions { ExpressionsAreDecided }

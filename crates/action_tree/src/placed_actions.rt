@@ -62,7 +62,8 @@ fn place_stmts<'v>(stmts: &mut [Stmt], mut scope: Scope<'v>) -> Scope<'v>
     requires { HasRoom (placed_scope scope) (stmts_names 0 (view.stmts_of stmts.old)) }
     ensures same { view.stmts_of stmts.new ≡ view.stmts_of stmts.old }
     ensures placed { spec.stmts_placed stmts.new (placed_scope scope.entry) ≡ true }
-    ensures behind { placed_scope result ≡ scope_after_all (placed_scope scope.entry) (view.stmts_of stmts.old) }
+    ensures behind { placed_scope result
+        ≡ scope_after_all (placed_scope scope.entry) (view.stmts_of stmts.old) }
 {
     for stmt in stmts.iter_mut() {
         let bare = mem::replace(stmt, no_stmt());
@@ -114,7 +115,8 @@ pub fn place_actions(actions: &mut [Action], vars: &[Var])
     requires few { length vars.now ≤ most_vars }
     requires counted { list_all is_action (map view.action_of actions.old) ≡ true }
     ensures same { map view.action_of actions.new ≡ map view.action_of actions.old }
-    ensures placed { spec.actions_placed actions.new (record { vars = names_of_vars (map view.var_of vars.now); bound = [] }) ≡ true }
+    ensures placed { spec.actions_placed actions.new
+        (record { vars = names_of_vars (map view.var_of vars.now); bound = [] }) ≡ true }
 {
     for action in actions.iter_mut() {
         place_action(action, Scope::new(vars));

@@ -1,4 +1,5 @@
-//! The place of each name of a program: of a variable among the variables, of a bound name among the names in force.
+//! The place of each name of a program: of a variable among the variables,
+//! of a bound name among the names in force.
 
 ghost use Rattle.std.specs.Prelude.{◌≡◌, true, suc};
 ghost use Rattle.action_tree.specs.Views as view;

@@ -17,7 +17,8 @@ pub struct Var {
     pub max: Lit,
 }
 
-/// An action: where its guard is true, its statements run, and then its movement. Without `do` the body is empty.
+/// An action: where its guard is true, its statements run, and then its movement.
+/// Without `do` the body is empty.
 #[derive(Drop)]
 pub struct Action {
     pub name: Word,
@@ -53,7 +54,8 @@ impl Model for Program {
     ghost use Rattle.action_tree.specs.Scopes.{at_start};
 
     ghost invariant = { λ p. (is_writable (program_of p.guard p.vars.items p.actions.items) ≡ true)
-        × (actions_placed p.actions.items (at_start (program_of p.guard p.vars.items p.actions.items)) ≡ true) };
+        × (actions_placed p.actions.items (at_start (program_of p.guard p.vars.items p.actions.items))
+        ≡ true) };
 }
 
 impl Program {

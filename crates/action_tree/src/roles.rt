@@ -7,8 +7,8 @@ ghost use Rattle.action_tree.specs.declared.role.Role.TheVariants as role;
 use crate::role::Role;
 use text_tokens::{TokenKind, is_same};
 
-// The reserved words, by their first letters, and of one letter what stands most often first. A word that is not among them
-// is a name.
+// The reserved words, by their first letters, and of one letter what stands most often first.
+// A word that is not among them is a name.
 static A_WORDS: [(&str, Role); 6] = [
     ("and", Role::AndWord),
     ("amoebot", Role::Foreign),
@@ -115,7 +115,8 @@ fn look_up(otherwise: Role, table: &[(&str, Role)], text: &[u8]) -> Role
 
 /// The reserved words with this first letter.
 fn words_from(letter: u8) -> &'static [(&'static str, Role)]
-    ensures { (rest : List ℕ) → roles.look_up role.AName (map (λ e. roles.entry e.0.now e.1) result.now) (letter ∷ rest)
+    ensures { (rest : List ℕ)
+        → roles.look_up role.AName (map (λ e. roles.entry e.0.now e.1) result.now) (letter ∷ rest)
         ≡ roles.look_up role.AName roles.words (letter ∷ rest) }
 {
     match letter {

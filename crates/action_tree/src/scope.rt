@@ -9,7 +9,8 @@ use crate::program::Var;
 use crate::word::{MOST_NAMES, NameText, Word};
 use arrayvec::ArrayVec;
 
-/// The variables in the order of their declaration, and the names in force in the order of the text.
+/// The variables in the order of their declaration, and the names
+/// in force in the order of the text.
 #[derive(Drop)]
 pub struct Scope<'v> {
     pub vars: &'v [Var],

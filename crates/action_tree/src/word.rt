@@ -15,8 +15,10 @@ pub const MOST_NAMES: usize = 4;
 /// What a word has in place of its place, until a program gives it one.
 pub const NO_PLACE: u8 = 255;
 
-/// A word, and the line that it stands on. Lines count from 1; a word that no text has may have line 0.
-/// In a program each name that is used has its place: how many names come before it, of the variables or of the names in force.
+/// A word, and the line that it stands on.
+/// Lines count from 1; a word that no text has may have line 0.
+/// In a program each name that is used has its place: how many names come before it,
+/// of the variables or of the names in force.
 #[derive(Clone, Copy)]
 pub struct Word {
     pub text: NameText,

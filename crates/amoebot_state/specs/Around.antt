@@ -9,7 +9,8 @@ use Rattle.amoebot_state.specs.Configs.{Config, bot_of, is_wall, occupant}
 use Rattle.amoebot_state.specs.declared.found.Behind.{Behind}
 use Rattle.amoebot_state.specs.declared.found.Behind.TheVariants as there
 
--- on a node, of which is said whether it lies in the area and whether it is a wall: its occupant, if it has one; else nobody
+-- on a node, of which is said whether it lies in the area and whether it is a wall: its occupant,
+-- if it has one; else nobody
 abbrev pub on_node : Bool → Bool → Option ℕ → Behind
 on_node inside wall (Some i) = there.Bot i
 on_node true true None = there.Wall

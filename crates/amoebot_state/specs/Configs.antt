@@ -1,5 +1,8 @@
--- Configurations: an area, its walls, the greatest values of the variables, and the amoebots by their ids. An id may have none.
--- Configurations of amoebots on nodes are the paper's; areas, walls, maxima, ids, cells and gaps are this project's profile.
+-- Configurations: an area, its walls, the greatest values of the variables,
+-- and the amoebots by their ids.
+-- An id may have none.
+-- Configurations of amoebots on nodes are the paper's; areas, walls, maxima, ids,
+-- cells and gaps are this project's profile.
 use Rattle.std.specs.Prelude.{◌≡◌, ℕ, ◌<◌, ◌≤◌, ◌*◌, List, [], ◌∷◌, ◌++◌, Bool, false, ◌||◌, map, length, slice_index, slice_index_or, slice_set, IsTrue, nat_le, pos, unwrap_or}
 use Rattle.std.specs.List.{All, list_all, position}
 use Rattle.std.specs.List.Sorted.{IsStrictlyIncreasing}
@@ -19,8 +22,8 @@ use Rattle.amoebot_state.specs.Limits.{most_bots}
 use Rattle.amoebot_state.specs.Ports.{is_own}
 use Rattle.amoebot_state.specs.Walls.{has_number, node_numbers}
 
--- an area, walls by the rising numbers of their nodes, the greatest value of each of eight variables, and the amoebot of each id, if
--- it has one
+-- an area, walls by the rising numbers of their nodes,
+-- the greatest value of each of eight variables, and the amoebot of each id, if it has one
 pub record Config : Type 0 where
   pub area : Extent
   pub walls : List ℕ
@@ -35,7 +38,13 @@ bot_at c i = slice_index_or c.bots i None
 abbrev pub blank : Bot
 blank =
     let origin : Node = record { x = pos 0; y = pos 0 } in
-    record { head = origin; tail = origin; rot = 0; chir = chir.Plus; mem = 0 ∷ 0 ∷ 0 ∷ 0 ∷ 0 ∷ 0 ∷ 0 ∷ 0 ∷ [] }
+    record {
+      head = origin;
+      tail = origin;
+      rot = 0;
+      chir = chir.Plus;
+      mem = 0 ∷ 0 ∷ 0 ∷ 0 ∷ 0 ∷ 0 ∷ 0 ∷ 0 ∷ [];
+    }
 
 -- the amoebot with an id that is there; else a blank one, so that the word is total
 abbrev pub bot_of : Config → ℕ → Bot
@@ -46,7 +55,8 @@ abbrev pub covers : Option Bot → Node → Bool
 covers None v = false
 covers (Some b) v = is_own b v
 
--- the id whose amoebot has the node as its head or its tail, if one has (the paper's geometric variant; ids are this project's)
+-- the id whose amoebot has the node as its head or its tail,
+-- if one has (the paper's geometric variant; ids are this project's)
 abbrev pub occupant : Config → Node → Option ℕ
 occupant c v = position (λ o. covers o v) c.bots
 
@@ -54,7 +64,8 @@ occupant c v = position (λ o. covers o v) c.bots
 abbrev pub is_wall : Config → Node → Bool
 is_wall c v = has_number c.walls (index_of c.area v)
 
--- what a cell holds: a node its occupant or none; a body the amoebot, if there is one (this project's profile)
+-- what a cell holds: a node its occupant or none; a body the amoebot,
+-- if there is one (this project's profile)
 abbrev pub value : Config → CellName → Option Cell
 value c (name.Spot v) = Some (cell.Spot (occupant c v))
 value c (name.Body i) = option_map cell.Body (bot_at c i)
@@ -87,8 +98,9 @@ walled_frame area walls maxes = record (frame_of area maxes) { walls = node_numb
 abbrev pub open_frame : Config → Config
 open_frame c = frame_of c.area c.maxes
 
--- an amoebot that may stand in a frame: it is in the area on one node or on two adjacent ones (the paper's geometric variant),
--- neither of them a wall, has a rotation of 0 to 5, and no value above its maximum (this project's profile)
+-- an amoebot that may stand in a frame: it is in the area on one node or on two adjacent ones
+-- (the paper's geometric variant), neither of them a wall, has a rotation of 0 to 5,
+-- and no value above its maximum (this project's profile)
 pub record IsBot (c : Config) (b : Bot) : Type 0 where
   pub head : IsTrue (is_in c.area b.head)
   pub tail : IsTrue (is_in c.area b.tail)
@@ -99,8 +111,9 @@ pub record IsBot (c : Config) (b : Bot) : Type 0 where
   pub values : IsTrue (has_values c.maxes b.mem)
   pub eight : length b.mem ≡ 8
 
--- each amoebot may stand in the frame, and no node belongs to two ids (the paper's geometric variant, within this project's
--- area); each wall is in the area and stands once, in the order of numbers (this project's profile)
+-- each amoebot may stand in the frame, and no node belongs to two ids (the paper's geometric
+-- variant, within this project's area); each wall is in the area and stands once,
+-- in the order of numbers (this project's profile)
 pub record IsValid (c : Config) : Type 0 where
   pub area : IsArea c.area
   pub eight : length c.maxes ≡ 8

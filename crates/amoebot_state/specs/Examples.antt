@@ -1,4 +1,5 @@
--- Lists of amoebots and of walls that are refused, in an area of eight by eight nodes, with variables of which each is 0.
+-- Lists of amoebots and of walls that are refused, in an area of eight by eight nodes,
+-- with variables of which each is 0.
 use Rattle.std.specs.Prelude.{ℕ, List, [], ◌∷◌, pos}
 use Rattle.tri_lattice.specs.declared.node.Node.{Node}
 use Rattle.tri_lattice.specs.Extent.{Extent}
@@ -40,7 +41,8 @@ node_by x y = record { x = pos x; y = pos y }
 abbrev pub wall_on_wall : List Node
 wall_on_wall = node_by 3 3 ∷ node_by 3 3 ∷ node_by 8 0 ∷ []
 
--- the wall is where the second of each two amoebots has its tail, whose head is on the first one or on no other
+-- the wall is where the second of each two amoebots has its tail,
+-- whose head is on the first one or on no other
 abbrev pub one_wall : List Node
 one_wall = node_by 2 3 ∷ []
 

@@ -1,4 +1,5 @@
--- How a world tells whether cells with new values lead to a valid one. No public clause of this crate cites these.
+-- How a world tells whether cells with new values lead to a valid one.
+-- No public clause of this crate cites these.
 use Rattle.std.specs.Prelude.{ℕ, Bool, true, false, not, ◌&&◌, ◌||◌, is_some, length, nat_eq, nat_lt, unwrap_or}
 use Rattle.std.specs.List.{list_all}
 use Rattle.std.specs.Option.{option_or}
@@ -43,7 +44,8 @@ have_cells c ps = list_all (λ (p : CellName × Cell). has_cell c (cell_of p) (c
 -- the amoebot may stand in the frame
 abbrev pub may_stand : Config → Bot → Bool
 may_stand c b =
-    is_in c.area b.head && is_in c.area b.tail && is_close b.head b.tail && not (is_wall c b.head) && not (is_wall c b.tail)
+    is_in c.area b.head && is_in c.area b.tail && is_close b.head b.tail
+    && not (is_wall c b.head) && not (is_wall c b.tail)
     && nat_lt b.rot 6 && has_values c.maxes b.mem && nat_eq (length b.mem) 8
 
 -- the node is to be the id's

@@ -27,7 +27,8 @@ use Rattle.amoebot_state.specs.Steps.{Step, Run}
 use Rattle.amoebot_state.specs.SerialTurns.{SerialTurn}
 use Rattle.amoebot_state.specs.declared.verdict.Turned.{Turned}
 
--- local and global directions are both 0 to 5, and the one is the inverse of the other, with either chirality
+-- local and global directions are both 0 to 5, and the one is the inverse of the other,
+-- with either chirality
 abbrev pub GlobalAndLocalAreInverse : Type 0
 GlobalAndLocalAreInverse =
     (b : Bot) (d : ℕ)
@@ -45,7 +46,8 @@ ExpandedHasTenPorts = (b : Bot) → b.rot < 6 → Adjacent b.head b.tail → len
 
 -- the six ports of a contracted amoebot lead to six nodes
 abbrev pub SixPortsLeadToSixNodes : Type 0
-SixPortsLeadToSixNodes = (b : Bot) → b.rot < 6 → b.head ≡ b.tail → length (distinct node_eq (map (behind b) (ports b))) ≡ 6
+SixPortsLeadToSixNodes =
+    (b : Bot) → b.rot < 6 → b.head ≡ b.tail → length (distinct node_eq (map (behind b) (ports b))) ≡ 6
 
 -- the ten ports of an expanded amoebot lead to eight
 abbrev pub TenPortsLeadToEightNodes : Type 0
@@ -70,7 +72,8 @@ ShownListsZone = (c : Config) (i : ℕ) → map cell_of (shown c i).cells ≡ zo
 -- and each with what it holds
 abbrev pub ShownHoldsValues : Type 0
 ShownHoldsValues =
-    (c : Config) (i : ℕ) → All (λ (p : CellName × Cell). value c (cell_of p) ≡ Some (cell_value p)) (shown c i).cells
+    (c : Config) (i : ℕ)
+    → All (λ (p : CellName × Cell). value c (cell_of p) ≡ Some (cell_value p)) (shown c i).cells
 
 -- what is known of a zone, when a front of it was read, is a front of it
 abbrev pub KnownIsFront : Type 0
@@ -106,7 +109,8 @@ NextIsNew =
     → next_cell c.area i cells ≡ Some n
     → All (λ (p : CellName × Cell). cell_of p ≢ n) cells
 
--- what is known grows at its end alone: further cells that are read leave the cells before as they were
+-- what is known grows at its end alone: further cells that are read
+-- leave the cells before as they were
 abbrev pub KnownGrowsAtItsEnd : Type 0
 KnownGrowsAtItsEnd =
     (c : Config) (i : ℕ) (cells more : Pairs)
@@ -122,8 +126,8 @@ WholeZoneIsShown =
     → IsFront cells (shown c i).cells
     → (next_cell c.area i cells ≡ None) ↔ (cells ≡ (shown c i).cells)
 
--- what was read of one configuration is a front of the zone in each other one with the same area in which the cells that were
--- read hold the same
+-- what was read of one configuration is a front of the zone in each other one with the same area
+-- in which the cells that were read hold the same
 abbrev pub FrontStands : Type 0
 FrontStands =
     (c d : Config) (i : ℕ) (cells : Pairs)
@@ -179,7 +183,8 @@ ShownAloneShowsTheSame = (s : Shown) → IsShown s → shown (shown_alone s) s.b
 
 -- at most one configuration is the one that a patch leads to
 abbrev pub PatchedIsUnique : Type 0
-PatchedIsUnique = (old one two : Config) (ps : Pairs) → IsPatched old ps one → IsPatched old ps two → one ≡ two
+PatchedIsUnique =
+    (old one two : Config) (ps : Pairs) → IsPatched old ps one → IsPatched old ps two → one ≡ two
 
 -- a patch lists each cell whose value differs
 abbrev pub PatchListsWhatDiffers : Type 0
@@ -210,8 +215,9 @@ RunHasOneLast =
 abbrev pub SameValueIsEquality : Type 0
 SameValueIsEquality = (x y : Option Cell) → IsTrue (same_value x y) ↔ (x ≡ y)
 
--- the difference of two valid configurations that differ in their amoebots at most and have the same ids leads from the old
--- one to the new one; each cell that it lists differs, and its old values are those of the old one
+-- the difference of two valid configurations that differ in their amoebots at most and have
+-- the same ids leads from the old one to the new one; each cell that it lists differs,
+-- and its old values are those of the old one
 abbrev pub DiffLeads : Type 0
 DiffLeads =
     (old new : Config)
@@ -222,8 +228,8 @@ DiffLeads =
     × All (λ (p : CellName × Cell). value old (cell_of p) ≢ Some (cell_value p)) (plain_patch (diff old new))
     × HasOldValues old (diff old new)
 
--- an ordered patch that leads from one valid configuration to another, each of whose cells differs, and whose old values are
--- those of the first one, is their difference
+-- an ordered patch that leads from one valid configuration to another, each of whose cells differs,
+-- and whose old values are those of the first one, is their difference
 abbrev pub OrderedPatchIsDiff : Type 0
 OrderedPatchIsDiff =
     (old new : Config) (ps : Triples)
@@ -268,7 +274,8 @@ FirstFaultIsUnique =
 -- and amoebots of which none is refused have none
 abbrev pub FaultlessHasNoFault : Type 0
 FaultlessHasNoFault =
-    (c : Config) (bots : List Bot) (e : WorldRefusal) → IsFaultless c bots (length bots) → ¬ IsFirstFault c bots e
+    (c : Config) (bots : List Bot) (e : WorldRefusal)
+    → IsFaultless c bots (length bots) → ¬ IsFirstFault c bots e
 
 -- at most one refusal is the first one of a list of walls and a list of amoebots
 abbrev pub FirstRefusalIsUnique : Type 0
@@ -289,7 +296,8 @@ LawfulHasNoRefusal =
 -- a frame with walls, of an area and of eight maxima, is valid
 abbrev pub WalledFrameIsValid : Type 0
 WalledFrameIsValid =
-    (a : Extent) (walls : List Node) (maxes : List ℕ) → IsArea a → length maxes ≡ 8 → IsValid (walled_frame a walls maxes)
+    (a : Extent) (walls : List Node) (maxes : List ℕ) → IsArea a
+    → length maxes ≡ 8 → IsValid (walled_frame a walls maxes)
 
 -- a node of the area is one of these nodes exactly where its number is one of their numbers
 abbrev pub NodesAreTheirNumbers : Type 0
@@ -302,7 +310,8 @@ NodesAreTheirNumbers =
 abbrev pub ShownAloneIsValid : Type 0
 ShownAloneIsValid = (s : Shown) → IsShown s → IsValid (shown_alone s)
 
--- each cell of a zone holds in the configuration that has what is shown and no other amoebot what it holds in the one that shows it
+-- each cell of a zone holds in the configuration that has what is shown and no other amoebot what
+-- it holds in the one that shows it
 abbrev pub ShownAloneHoldsTheSame : Type 0
 ShownAloneHoldsTheSame =
     (c : Config) (i : ℕ) (n : CellName)
@@ -316,14 +325,17 @@ ShownAloneHoldsTheSame =
 abbrev pub ShownAloneHasTheZone : Type 0
 ShownAloneHasTheZone =
     (c : Config) (i j : ℕ) (b : Bot)
-    → (bot_at (shown_alone (shown c i)) j ≡ Some b) ↔ ((bot_at c j ≡ Some b) × Contains (zone c i) (name.Body j))
+    → (bot_at (shown_alone (shown c i)) j ≡ Some b)
+    ↔ ((bot_at c j ≡ Some b) × Contains (zone c i) (name.Body j))
 
 -- it has none with an id exactly where the body of that id is not in the zone
 abbrev pub NoneIsOutsideTheZone : Type 0
 NoneIsOutsideTheZone =
-    (c : Config) (i j : ℕ) → (bot_at (shown_alone (shown c i)) j ≡ None) ↔ (¬ Contains (zone c i) (name.Body j))
+    (c : Config) (i j : ℕ)
+    → (bot_at (shown_alone (shown c i)) j ≡ None) ↔ (¬ Contains (zone c i) (name.Body j))
 
--- A node that is the amoebot's own or adjacent to one has the same occupant in both, whether it is in the area or not.
+-- A node that is the amoebot's own or adjacent to one has the same occupant in both,
+-- whether it is in the area or not.
 abbrev pub BesideHoldsTheSame : Type 0
 BesideHoldsTheSame =
     (c : Config) (i : ℕ) (b : Bot) (v : Node)
@@ -336,7 +348,8 @@ BesideHoldsTheSame =
 abbrev pub ShownHasTheWalls : Type 0
 ShownHasTheWalls =
     (c : Config) (i : ℕ) (v : Node)
-    → IsTrue (is_wall (shown_alone (shown c i)) v) ↔ (IsTrue (is_wall c v) × Contains (zone c i) (name.Spot v))
+    → IsTrue (is_wall (shown_alone (shown c i)) v)
+    ↔ (IsTrue (is_wall c v) × Contains (zone c i) (name.Spot v))
 
 -- A node that is the amoebot's own or adjacent to one is a wall in both or in neither.
 abbrev pub BesideHasTheSameWalls : Type 0
@@ -347,7 +360,8 @@ BesideHasTheSameWalls =
     → IsTrue (is_beside b v)
     → is_wall (shown_alone (shown c i)) v ≡ is_wall c v
 
--- in a valid configuration a node is occupied exactly where it is the head or the tail of an amoebot of it
+-- in a valid configuration a node is occupied exactly where it is the head
+-- or the tail of an amoebot of it
 abbrev pub OccupiedIsOccupant : Type 0
 OccupiedIsOccupant =
     (c : Config) (v : Node)

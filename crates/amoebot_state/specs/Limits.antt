@@ -25,7 +25,8 @@ most_pairs = 10
 abbrev pub most_nodes : ℕ
 most_nodes = 10
 
--- room for the nodes of a zone: two own ones and one for each pair of an end and a direction; and for the amoebots on them
+-- room for the nodes of a zone: two own ones and one for each pair of an end and a direction;
+-- and for the amoebots on them
 abbrev pub node_room : ℕ
 node_room = 14
 

@@ -1,5 +1,7 @@
--- Patches: cells with their values before and after, the configuration that the new values lead to, and the difference of two
--- configurations. All of it is this project's profile: the paper tells what an activation changes by its operations.
+-- Patches: cells with their values before and after, the configuration that the new values lead to,
+-- and the difference of two configurations.
+-- All of it is this project's profile: the paper tells what
+-- an activation changes by its operations.
 use Rattle.std.specs.Prelude.{◌≡◌, ◌≢◌, ℕ, ◌+◌, ◌*◌, List, ◌++◌, Bool, true, false, ◌&&◌, map, length, is_some, unwrap_or, nat_eq, if◌then◌else◌}
 use Rattle.std.specs.List.{All, filter_map, range_with_len}
 use Rattle.std.specs.Cmp.Lexicographic.{pointwise}
@@ -25,8 +27,9 @@ pub record HasSameIds (old new : Config) : Type 0 where
   pub size : length new.bots ≡ length old.bots
   pub ids : (i : ℕ) → is_some (bot_at new i) ≡ is_some (bot_at old i)
 
--- new is the configuration with the new values of these cells: it is valid, differs from the old one in its amoebots at most, has
--- the same ids, the new values in these cells, and the old values in all others (this project's profile)
+-- new is the configuration with the new values of these cells: it is valid,
+-- differs from the old one in its amoebots at most, has the same ids,
+-- the new values in these cells, and the old values in all others (this project's profile)
 pub record IsPatched (old : Config) (patch : Pairs) (new : Config) : Type 0 where
   pub valid : IsValid new
   pub same : HasSameIds old new
@@ -90,7 +93,8 @@ all_cells c =
     map (λ k. name.Spot (node_at c.area k)) (range_with_len 0 (c.area.w * c.area.h))
     ++ map name.Body (range_with_len 0 (length c.bots))
 
--- the cells whose value differs, with their new values: first the nodes, then the bodies in rising id
+-- the cells whose value differs, with their new values: first the nodes,
+-- then the bodies in rising id
 abbrev pub plain_diff : Config → Config → Pairs
 plain_diff old new = filter_map (changed old new) (all_cells old)
 
@@ -98,7 +102,8 @@ plain_diff old new = filter_map (changed old new) (all_cells old)
 abbrev pub with_old : Config → CellName × Cell → CellChange
 with_old old p = (cell_of p, unwrap_or (value old (cell_of p)) (cell_value p), cell_value p)
 
--- the difference: the cells whose value differs, each with its value in the old and in the new configuration
+-- the difference: the cells whose value differs, each with its value
+-- in the old and in the new configuration
 abbrev pub diff : Config → Config → Triples
 diff old new = map (with_old old) (plain_diff old new)
 

@@ -1,6 +1,7 @@
--- Amoebots: their nodes, their directions and their ports. Heads and tails, and that an amoebot has one or two nodes and a port
--- to each neighbour of them, are the paper's geometric variant; rotations, the numbers and the order of ports are this project's
--- profile.
+-- Amoebots: their nodes, their directions and their ports.
+-- Heads and tails, and that an amoebot has one or two nodes and a port to each neighbour of them,
+-- are the paper's geometric variant; rotations, the numbers and the order
+-- of ports are this project's profile.
 use Rattle.std.specs.Prelude.{ℕ, ◌+◌, ◌-◌, ◌%◌, List, [], ◌∷◌, Bool, true, false, not, ◌&&◌, ◌||◌, if◌then◌else◌, filter, nat_lt, codes}
 use Rattle.tri_lattice.specs.declared.node.Node.{Node}
 use Rattle.tri_lattice.specs.Lattice.{step, node_eq, is_adjacent}
@@ -19,8 +20,8 @@ is_contracted b = node_eq b.head b.tail
 abbrev pub is_own : Bot → Node → Bool
 is_own b v = node_eq b.head v || node_eq b.tail v
 
--- the global direction of a local one: with one chirality the local directions go round as the global ones, with the
--- other against them (this project's profile)
+-- the global direction of a local one: with one chirality the local directions go round
+-- as the global ones, with the other against them (this project's profile)
 abbrev pub global_by : Chir → ℕ → ℕ → ℕ
 global_by chir.Plus rot i = (rot + i) % 6
 global_by chir.Minus rot i = (rot + (6 - i)) % 6
@@ -43,7 +44,8 @@ abbrev pub end_node : Bot → End → Node
 end_node b Head = b.head
 end_node b Tail = b.tail
 
--- the node behind a pair of an end and a local direction: one step from the end's node (the paper's geometric variant)
+-- the node behind a pair of an end and a local direction:
+-- one step from the end's node (the paper's geometric variant)
 abbrev pub behind : Bot → Port → Node
 behind b p = step (end_node b p.end) (global b p.dir)
 
@@ -57,8 +59,8 @@ abbrev pub end_word : End → List ℕ
 end_word Head = codes "head"
 end_word Tail = codes "tail"
 
--- contracted: the six pairs of the head; expanded: the pairs of both ends that lead to no node of its
--- own (the paper's geometric variant)
+-- contracted: the six pairs of the head; expanded: the pairs of both ends that lead to no node
+-- of its own (the paper's geometric variant)
 abbrev pub is_port : Bot → Port → Bool
 is_port b p = nat_lt p.dir 6 && (if is_contracted b then is_head p.end else not (is_own b (behind b p)))
 
@@ -66,10 +68,12 @@ is_port b p = nat_lt p.dir 6 && (if is_contracted b then is_head p.end else not 
 abbrev pub port : End → ℕ → Port
 port e i = record { end = e; dir = i }
 
--- all pairs of an end and a local direction, in port order: head before tail, then rising direction (this project's profile)
+-- all pairs of an end and a local direction, in port order: head before tail,
+-- then rising direction (this project's profile)
 abbrev pub all_ports : List Port
 all_ports =
-    port Head 0 ∷ port Head 1 ∷ port Head 2 ∷ port Head 3 ∷ port Head 4 ∷ port Head 5 ∷ port Tail 0 ∷ port Tail 1
+    port Head 0 ∷ port Head 1 ∷ port Head 2 ∷ port Head 3
+    ∷ port Head 4 ∷ port Head 5 ∷ port Tail 0 ∷ port Tail 1
     ∷ port Tail 2 ∷ port Tail 3 ∷ port Tail 4 ∷ port Tail 5 ∷ []
 
 -- the place of a pair in port order

@@ -1,5 +1,5 @@
--- What lists of walls and of amoebots are refused for. The conditions are those of a valid configuration; their order is this
--- project's profile.
+-- What lists of walls and of amoebots are refused for.
+-- The conditions are those of a valid configuration; their order is this project's profile.
 use Rattle.std.specs.Prelude.{◌≡◌, ◌⊎◌, ℕ, ◌<◌, List, Bool, true, false, not, ◌&&◌, ◌||◌, if◌then◌else◌, length, is_some, slice_get, take}
 use Rattle.std.specs.declared.option.Option.{Option}
 use Rattle.std.specs.declared.option.Option.TheVariants.{Some, None}
@@ -19,8 +19,8 @@ pub record IsBotInRange (b : Bot) : Type 0 where
   pub rot : b.rot < 6
   pub eight : length b.mem ≡ 8
 
--- the first of its conditions that an amoebot breaks, in this order (this project's profile), where it is to have the next id
--- after those that are there
+-- the first of its conditions that an amoebot breaks, in this order (this project's profile),
+-- where it is to have the next id after those that are there
 abbrev pub bot_fault : Config → Bot → Option WorldRefusal
 bot_fault c b =
     if not (is_in c.area b.head && is_in c.area b.tail) then Some (OutOfBox (length c.bots))
@@ -30,7 +30,8 @@ bot_fault c b =
     else if not (has_values c.maxes b.mem) then Some (BadValue (length c.bots))
     else None
 
--- in a frame no amoebot of a list before place n breaks a condition, each judged beside those before it
+-- in a frame no amoebot of a list before place n breaks a condition,
+-- each judged beside those before it
 abbrev pub IsFaultless : Config → List Bot → ℕ → Type 0
 IsFaultless c bots n =
     (j : ℕ) (b : Bot) → j < n → slice_get bots j ≡ Some b → bot_fault (with_these c (take j bots)) b ≡ None
@@ -49,7 +50,8 @@ is_bad_wall a before v = not (is_in a v) || has_node before v
 
 -- the walls of a list before place n are in the area, each once
 abbrev pub AreWalls : Extent → List Node → ℕ → Type 0
-AreWalls a walls n = (j : ℕ) (v : Node) → j < n → slice_get walls j ≡ Some v → is_bad_wall a (take j walls) v ≡ false
+AreWalls a walls n =
+    (j : ℕ) (v : Node) → j < n → slice_get walls j ≡ Some v → is_bad_wall a (take j walls) v ≡ false
 
 -- the first wall of a list that may not stand there, by its place
 pub record IsFirstBadWall (a : Extent) (walls : List Node) (place : ℕ) : Type 0 where
@@ -58,8 +60,8 @@ pub record IsFirstBadWall (a : Extent) (walls : List Node) (place : ℕ) : Type 
   pub bad : is_bad_wall a (take place walls) wall ≡ true
   pub before : AreWalls a walls place
 
--- what walls and amoebots are refused for: the first wall that may not stand there; else the first fault of the amoebots beside all
--- walls
+-- what walls and amoebots are refused for: the first wall that may not stand there;
+-- else the first fault of the amoebots beside all walls
 abbrev pub IsFirstRefusal : Extent → List Node → List ℕ → List Bot → WorldRefusal → Type 0
 IsFirstRefusal a walls maxes bots e =
     ((place : ℕ) × (e ≡ BadWall place) × IsFirstBadWall a walls place)

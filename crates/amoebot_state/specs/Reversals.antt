@@ -1,4 +1,5 @@
--- Back over a patch: the cells with their values exchanged. Values before are this project's profile.
+-- Back over a patch: the cells with their values exchanged.
+-- Values before are this project's profile.
 use Rattle.std.specs.Prelude.{map}
 use Rattle.amoebot_state.specs.Pairs.{CellChange, Triples, plain_patch}
 use Rattle.amoebot_state.specs.Configs.{Config, IsValid}
@@ -12,7 +13,8 @@ reversed_triple t = (t.0, t.2, t.1)
 abbrev pub reversed_patch : Triples → Triples
 reversed_patch ts = map reversed_triple ts
 
--- where the values before are those of a valid configuration, the patch the other way round leads back to it
+-- where the values before are those of a valid configuration,
+-- the patch the other way round leads back to it
 abbrev pub ReversedLeadsBack : Type 0
 ReversedLeadsBack =
     (old new : Config) (ts : Triples)

@@ -1,5 +1,6 @@
--- What a decider promises, and the steps and runs of the model: one activation after another. Activations and their sequential
--- runs are the paper's; deciders, patches and what they promise are this project's profile.
+-- What a decider promises, and the steps and runs of the model: one activation after another.
+-- Activations and their sequential runs are the paper's; deciders,
+-- patches and what they promise are this project's profile.
 use Rattle.std.specs.Prelude.{◌≡◌, ◌≢◌, ℕ, List, [], ◌∷◌, IsSome}
 use Rattle.std.specs.List.{All, Contains}
 use Rattle.std.specs.declared.option.Option.TheVariants.{Some}
@@ -27,8 +28,8 @@ pub record IsLawfulPatch (c : Config) (i : ℕ) (patch : Triples) : Type 0 where
   pub touches : All (λ (p : CellName × Cell). Contains (zone c i) (cell_of p)) (plain_patch patch)
   -- it leads to a configuration
   pub leads : HasPatched c (plain_patch patch)
-  -- it is in its order, and holds exactly the cells whose value differs: each that it lists differs, and that each other cell
-  -- stays is a part of `IsPatched`
+  -- it is in its order, and holds exactly the cells whose value differs:
+  -- each that it lists differs, and that each other cell stays is a part of `IsPatched`
   pub ordered : IsOrdered (plain_patch patch)
   pub differs : All (λ (p : CellName × Cell). value c (cell_of p) ≢ Some (cell_value p)) (plain_patch patch)
   -- its old values are those found
@@ -49,7 +50,8 @@ TouchesZone f =
 -- each valid configuration that shows what was found has one that the patch leads to
 abbrev pub HasPatchedWorld : (Shown → Verdict) → Type 0
 HasPatchedWorld f =
-    (c : Config) (i : ℕ) (change : Change) → DecidesChange f c i change → HasPatched c (plain_patch change.patch)
+    (c : Config) (i : ℕ) (change : Change) → DecidesChange f c i change
+    → HasPatched c (plain_patch change.patch)
 
 -- a patch is in its order, and each cell that it lists differs
 abbrev pub ListsDifferences : (Shown → Verdict) → Type 0
@@ -92,8 +94,9 @@ plain_entry e =
       patch = plain_patch e.patch;
     }
 
--- an activation of the model, whole in one step: f decides the entry's change on what the old configuration shows to the entry's
--- amoebot, which is there, and the new values of its patch lead from the old configuration to the new one
+-- an activation of the model, whole in one step: f decides the entry's change on what the old
+-- configuration shows to the entry's amoebot, which is there,
+-- and the new values of its patch lead from the old configuration to the new one
 pub record Step (f : Shown → Verdict) (old : Config) (e : Entry) (new : Config) : Type 0 where
   pub there : IsSome (bot_at old e.bot)
   pub decided : f (shown old e.bot) ≡ verdict.Change (change_of e)

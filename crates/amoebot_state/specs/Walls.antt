@@ -19,7 +19,8 @@ has_number ns (Some k) = list_any (λ n. nat_eq n k) ns
 -- rising numbers with one more, at its place; one that is there already comes once
 abbrev pub with_number : List ℕ → ℕ → List ℕ
 with_number [] k = k ∷ []
-with_number (n ∷ ns) k = if nat_lt k n then k ∷ n ∷ ns else if nat_eq k n then n ∷ ns else n ∷ with_number ns k
+with_number (n ∷ ns) k =
+    if nat_lt k n then k ∷ n ∷ ns else if nat_eq k n then n ∷ ns else n ∷ with_number ns k
 
 -- the rising numbers of the nodes that lie in the area
 abbrev pub node_numbers : Extent → List Node → List ℕ

@@ -1,5 +1,6 @@
--- Where the pairs of an end and a direction of an amoebot lead, by places among the nodes of its zone. No public clause cites these
--- but those of `KnownZone`.
+-- Where the pairs of an end and a direction of an amoebot lead,
+-- by places among the nodes of its zone.
+-- No public clause cites these but those of `KnownZone`.
 use Rattle.std.specs.Prelude.{◌≡◌, ℕ, List, map, replicate, if◌then◌else◌}
 use Rattle.std.specs.List.{position_or_len}
 use Rattle.std.specs.declared.option.Option.{Option}
@@ -25,7 +26,8 @@ node_place vs v = position_or_len (λ u. node_eq u v) vs
 -- where a pair leads, with the nodes among which a place is meant
 abbrev pub way_among : Extent → Bot → List Node → Port → Way
 way_among a b vs p =
-    if is_port b p then (if is_in a (behind b p) then way.To (node_place vs (behind b p)) else way.Outside) else way.NoPort
+    if is_port b p
+    then (if is_in a (behind b p) then way.To (node_place vs (behind b p)) else way.Outside) else way.NoPort
 
 -- where all pairs lead, in port order
 abbrev pub ways_of : Extent → Bot → List Way

@@ -1,5 +1,6 @@
--- The zone of an amoebot, and what it is shown of a configuration. That an activation sees the amoebot, the nodes behind its ports and
--- its neighbours is the paper's; the cells, their order, and what is shown of them are this project's profile.
+-- The zone of an amoebot, and what it is shown of a configuration.
+-- That an activation sees the amoebot, the nodes behind its ports and its neighbours
+-- is the paper's; the cells, their order, and what is shown of them are this project's profile.
 use Rattle.std.specs.Prelude.{◌≡◌, ℕ, zero, suc, List, [], ◌∷◌, ◌++◌, Bool, not, map, filter, nat_eq, IsSome}
 use Rattle.std.specs.List.{filter_map}
 use Rattle.std.specs.Option.{option_map}
@@ -23,7 +24,8 @@ abbrev pub distinct : {A : Type 0} → (A → A → Bool) → List A → List A
 distinct eq [] = []
 distinct eq (x ∷ xs) = x ∷ filter (λ y. not (eq x y)) (distinct eq xs)
 
--- the nodes of a zone: the amoebot's own, then those behind its ports that lie in the area, each once
+-- the nodes of a zone: the amoebot's own, then those behind its ports that lie in the area,
+-- each once
 abbrev pub zone_nodes : Extent → Bot → List Node
 zone_nodes a b = distinct node_eq (own_nodes b ++ filter (is_in a) (map (behind b) (ports b)))
 
@@ -35,8 +37,8 @@ others on i vs = distinct nat_eq (filter (λ j. not (nat_eq j i)) (filter_map on
 abbrev pub zone_of : (Node → Option ℕ) → ℕ → List Node → List CellName
 zone_of on i vs = name.Body i ∷ (map name.Spot vs ++ map name.Body (others on i vs))
 
--- the zone of an id in an area, in zone order, where this amoebot is the id's own, and `on` says who is on a node; empty where
--- the id has no amoebot (this project's profile)
+-- the zone of an id in an area, in zone order, where this amoebot is the id's own,
+-- and `on` says who is on a node; empty where the id has no amoebot (this project's profile)
 abbrev pub zone_at : Extent → (Node → Option ℕ) → ℕ → Option Bot → List CellName
 zone_at a on i None = []
 zone_at a on i (Some b) = zone_of on i (zone_nodes a b)
@@ -45,8 +47,9 @@ zone_at a on i (Some b) = zone_of on i (zone_nodes a b)
 abbrev pub zone : Config → ℕ → List CellName
 zone c i = zone_at c.area (occupant c) i (bot_at c i)
 
--- a closed neighbourhood (this project's profile): the area, the greatest values, the id that is shown it, the rising numbers of the
--- walls among its nodes, and cells with what they hold
+-- a closed neighbourhood (this project's profile): the area, the greatest values,
+-- the id that is shown it, the rising numbers of the walls among its nodes,
+-- and cells with what they hold
 pub record Shown : Type 0 where
   pub area : Extent
   pub maxes : List ℕ
@@ -68,7 +71,8 @@ walls_among c cells = filter (is_number_among c.area cells) c.walls
 
 -- what is shown, by its parts
 abbrev pub shown_by : Extent → List ℕ → ℕ → List ℕ → List (CellName × Cell) → Shown
-shown_by area maxes i walls cells = record { area = area; maxes = maxes; bot = i; walls = walls; cells = cells }
+shown_by area maxes i walls cells =
+    record { area = area; maxes = maxes; bot = i; walls = walls; cells = cells }
 
 -- what a configuration shows to an id by these cells
 abbrev pub shown_with : Config → ℕ → List (CellName × Cell) → Shown
@@ -96,6 +100,7 @@ spread ((name.Spot v, x) ∷ cells) = spread cells
 spread ((name.Body i, cell.Spot o) ∷ cells) = spread cells
 spread ((name.Body i, cell.Body b) ∷ cells) = with_id (spread cells) i b
 
--- the configuration that has what is shown and no other amoebot: the ids that are not shown are gaps in it
+-- the configuration that has what is shown and no other amoebot:
+-- the ids that are not shown are gaps in it
 abbrev pub shown_alone : Shown → Config
 shown_alone s = record (frame_of s.area s.maxes) { walls = s.walls; bots = spread s.cells }

@@ -52,7 +52,8 @@ impl Port {
     }
 }
 
-/// An amoebot: its nodes, which are equal or adjacent; its rotation, 0 to 5; its chirality; its public memory.
+/// An amoebot: its nodes, which are equal or adjacent; its rotation, 0 to 5; its chirality;
+/// its public memory.
 #[derive(Clone, Copy, Debug, Default, PartialEq, Eq)]
 pub struct Bot {
     pub head: Node,
@@ -123,8 +124,8 @@ impl Bot {
         self.end_node(port.end).step(self.global(port.dir))
     }
 
-    /// Whether the pair is a port of the amoebot: a contracted one has the six of its head, an expanded one those of both
-    /// ends that lead to no node of its own.
+    /// Whether the pair is a port of the amoebot: a contracted one has the six of its head,
+    /// an expanded one those of both ends that lead to no node of its own.
     pub fn is_port(&self, port: Port) -> bool
         requires rot { self.now.rot < 6 }
         requires head { IsNear self.now.head }
@@ -151,7 +152,8 @@ fn within_six(number: u8) -> u8
     if number < 6 { number } else { number - 6 }
 }
 
-/// All pairs of an end and a local direction, in port order: head before tail, then rising direction.
+/// All pairs of an end and a local direction, in port order: head before tail,
+/// then rising direction.
 pub const ALL_PORTS: [Port; 12] = [
     Port {
         end: End::Head,

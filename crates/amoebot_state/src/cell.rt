@@ -48,7 +48,8 @@ pub const MOST_CELLS: usize = 19;
 /// Room for the cells of a zone.
 pub const CELL_ROOM: usize = 30;
 
-/// Cells with their values before and after: a list of at most 10 triples, in each of which all parts are `Spot` or all are `Body`.
+/// Cells with their values before and after: a list of at most 10 triples,
+/// in each of which all parts are `Spot` or all are `Body`.
 #[derive(Drop)]
 pub struct Patch {
     triples: ArrayVec<(CellName, Cell, Cell), MOST_PAIRS>,
@@ -117,7 +118,8 @@ impl Patch {
     }
 }
 
-/// A patch without the values before: a list of at most 10 pairs, in each of which both parts are `Spot` or both are `Body`.
+/// A patch without the values before: a list of at most 10 pairs,
+/// in each of which both parts are `Spot` or both are `Body`.
 #[derive(Drop)]
 pub struct PlainPatch {
     pairs: ArrayVec<(CellName, Cell), MOST_PAIRS>,

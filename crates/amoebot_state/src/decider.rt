@@ -14,17 +14,20 @@ pub trait Decider: Sync {
     fn decide(&self, found: &Found) -> Verdict
         ensures { result ≡ verdict self.now found.now };
 
-    /// A patch touches cells of the zone alone; each valid configuration that shows what was found has one that the patch leads to; a
-    /// patch is in its order, and holds only cells whose value differs; its old values are those found.
+    /// A patch touches cells of the zone alone; each valid configuration that shows what was found
+    /// has one that the patch leads to; a patch is in its order,
+    /// and holds only cells whose value differs; its old values are those found.
     ghost is_lawful: { (decider : Self) → IsLawful (verdict decider) };
 }
 
-/// The first law of a decider, for a caller that needs it: its patches touch cells of the zone alone.
+/// The first law of a decider, for a caller that needs it:
+/// its patches touch cells of the zone alone.
 pub fn touches_zone<D: Decider>(_decider: &D)
     ensures { TouchesZone (D.verdict _decider.now) }
 {}
 
-/// The second law: each valid configuration that shows what was found has one that the patch leads to.
+/// The second law: each valid configuration that shows what was found
+/// has one that the patch leads to.
 pub fn has_next<D: Decider>(_decider: &D)
     ensures { HasPatchedWorld (D.verdict _decider.now) }
 {}

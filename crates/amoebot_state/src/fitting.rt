@@ -20,13 +20,15 @@ impl World {
     /// Whether the cells of the patch have its values after.
     pub fn holds(&self, patch: &Patch) -> bool
         ensures { Decides result
-            (All (λ (p : CellName × Cell). value self.now (cell_of p) ≡ Some (cell_value p)) (plain_patch patch.now)) }
+            (All (λ (p : CellName × Cell). value self.now (cell_of p) ≡ Some (cell_value p))
+            (plain_patch patch.now)) }
     {
         let plain = patch.plain();
         have_cells(self, plain.pairs())
     }
 
-    /// Whether the values after of the patch lead to a valid world with the same ids. It takes no memory.
+    /// Whether the values after of the patch lead to a valid world with the same ids.
+    /// It takes no memory.
     pub fn can_apply(&self, patch: &Patch) -> bool
         ensures { Decides result (HasPatched self.now (plain_patch patch.now)) }
     {
@@ -131,7 +133,8 @@ fn cell_fits(world: &World, cells: &[(CellName, Cell)], name: &CellName, cell: &
     }
 }
 
-/// The occupant that a node is to have: the one that the cells give it, or else the one that it has.
+/// The occupant that a node is to have: the one that the cells give it,
+/// or else the one that it has.
 fn occupant_after(world: &World, cells: &[(CellName, Cell)], node: Node) -> Option<u16>
     ensures { result ≡ occupant_after world.now cells.now node }
 {

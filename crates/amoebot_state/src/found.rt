@@ -40,8 +40,9 @@ pub enum Behind {
     Bot(u16),
 }
 
-/// What an amoebot is shown of a world: its closed neighbourhood. That is the area, the maxima of the variables, the
-/// cells of its zone with their values, and the walls among its nodes.
+/// What an amoebot is shown of a world: its closed neighbourhood.
+/// That is the area, the maxima of the variables, the cells of its zone with their values,
+/// and the walls among its nodes.
 #[derive(Drop)]
 pub struct Found {
     area: Area,
@@ -62,12 +63,15 @@ impl Model for Found {
 
     ghost view = { λ f. shown_by f.area f.maxes f.bot (node_numbers f.area f.walls.items) f.cells.items };
 
-    ghost invariant = { λ f. IsFound (shown_by f.area f.maxes f.bot (node_numbers f.area f.walls.items) f.cells.items) f.own f.ways };
+    ghost invariant = { λ f. IsFound
+        (shown_by f.area f.maxes f.bot (node_numbers f.area f.walls.items) f.cells.items) f.own f.ways };
 }
 
 impl Found {
-    /// The closed neighbourhood that has these cells and these walls. The cells are the whole zone of an amoebot of some valid world,
-    /// in zone order, with what they hold there, and the walls are those of that world on the nodes among them. It takes no memory.
+    /// The closed neighbourhood that has these cells and these walls.
+    /// The cells are the whole zone of an amoebot of some valid world, in zone order,
+    /// with what they hold there, and the walls are those of that world on the nodes among them.
+    /// It takes no memory.
     pub fn make(
         area: Area,
         maxes: [u8; 8],
@@ -231,7 +235,8 @@ impl Found {
     /// What is on the node with this place among the nodes of the zone.
     fn on_place(&self, place: usize) -> Behind
         requires { 1 + place < length self.now.cells }
-        ensures { (v : Node) (o : Option ℕ) → slice_get self.now.cells (1 + place) ≡ Some (CellName.Spot v, Cell.Spot o)
+        ensures { (v : Node) (o : Option ℕ)
+            → slice_get self.now.cells (1 + place) ≡ Some (CellName.Spot v, Cell.Spot o)
             → result ≡ on_node true (is_wall (shown_alone self.now) v) o }
     {
         let (name, cell) = &self.cells.as_slice()[1 + place];
@@ -243,7 +248,8 @@ impl Found {
 
     /// What is on a node without an occupant.
     fn on_empty(&self, name: &CellName) -> Behind
-        ensures { (v : Node) → name.now ≡ CellName.Spot v → result ≡ on_node true (is_wall (shown_alone self.now) v) None }
+        ensures { (v : Node) → name.now ≡ CellName.Spot v
+            → result ≡ on_node true (is_wall (shown_alone self.now) v) None }
     {
         match name {
             CellName::Spot(node) => {
@@ -280,8 +286,8 @@ impl Found {
         self.cells.as_slice()
     }
 
-    /// The id of a node's occupant; None for an empty node and for one outside the area. The node is an own one or adjacent to
-    /// one.
+    /// The id of a node's occupant; None for an empty node and for one outside the area.
+    /// The node is an own one or adjacent to one.
     pub fn occupant(&self, node: Node) -> Option<u16>
         requires { IsTrue (is_beside (bot_of (shown_alone self.now) self.now.bot) node) }
         ensures { result ≡ occupant (shown_alone self.now) node }

@@ -11,8 +11,8 @@ use std::alloc::Global;
 use std::marker::Model;
 use tri_lattice::{Area, Node};
 
-/// What a world is without its amoebots: an area, walls in it, and the maxima of the variables. It knows of each node of the area
-/// whether it is a wall.
+/// What a world is without its amoebots: an area, walls in it, and the maxima of the variables.
+/// It knows of each node of the area whether it is a wall.
 #[derive(Drop)]
 pub(crate) struct Frame {
     area: Area,
@@ -124,7 +124,8 @@ fn mark(area: &Area, marks: &mut Vec<bool>, node: Node) -> bool
     requires { length marks.old.items ≡ area.now.w * area.now.h }
     ensures good { result ≡ true → (before : List Node)
         → IsMarked area.now before marks.old.items
-        → (is_bad_wall area.now before node ≡ false) × IsMarked area.now (before ++ node ∷ []) marks.new.items }
+        → (is_bad_wall area.now before node ≡ false)
+        × IsMarked area.now (before ++ node ∷ []) marks.new.items }
     ensures bad { result ≡ false → (before : List Node)
         → IsMarked area.now before marks.old.items
         → is_bad_wall area.now before node ≡ true }

@@ -16,7 +16,8 @@ ghost use Rattle.amoebot_state.specs.Reversals.{ReversedLeadsBack};
 ghost use Rattle.amoebot_state.specs.Examples.{SmallFaults, SmallRefusals};
 ghost use Rattle.amoebot_state.specs.Laws.{SerialTurnIsUnique};
 
-/// Local and global directions are both 0 to 5, and the one is the inverse of the other, with either chirality.
+/// Local and global directions are both 0 to 5, and the one is the inverse of the other,
+/// with either chirality.
 pub fn global_and_local_are_inverse()
     ensures { GlobalAndLocalAreInverse }
 {}
@@ -91,7 +92,8 @@ pub fn whole_zone_is_shown()
     ensures { WholeZoneIsShown }
 {}
 
-/// What was read of one configuration is a front of the zone in each other one in which these cells hold the same.
+/// What was read of one configuration is a front of the zone in each other one
+/// in which these cells hold the same.
 pub fn front_stands()
     ensures { FrontStands }
 {}
@@ -151,19 +153,22 @@ pub fn same_value_is_equality()
     ensures { SameValueIsEquality }
 {}
 
-/// The difference of two valid configurations with the same area, walls, greatest values and ids leads from the old one to
-/// the new one; each cell that it lists differs, and its old values are those of the old one.
+/// The difference of two valid configurations with the same area, walls,
+/// greatest values and ids leads from the old one to the new one; each cell that it lists differs,
+/// and its old values are those of the old one.
 pub fn diff_leads()
     ensures { DiffLeads }
 {}
 
-/// An ordered patch that leads from one valid configuration to another, each of whose cells differs, and whose old values are
-/// those of the first one, is their difference.
+/// An ordered patch that leads from one valid configuration to another,
+/// each of whose cells differs, and whose old values are those of the first one,
+/// is their difference.
 pub fn ordered_patch_is_diff()
     ensures { OrderedPatchIsDiff }
 {}
 
-/// Patches with the same cells and new values, and with the old values of one configuration, are one.
+/// Patches with the same cells and new values, and with the old values of one configuration,
+/// are one.
 pub fn old_values_are_one()
     ensures { OldValuesAreOne }
 {}
@@ -228,7 +233,8 @@ pub fn shown_alone_holds_the_same()
     ensures { ShownAloneHoldsTheSame }
 {}
 
-/// An amoebot is in that configuration exactly where it is in the one that shows it and its body is in the zone.
+/// An amoebot is in that configuration exactly where it is in the one that shows
+/// it and its body is in the zone.
 pub fn shown_alone_has_the_zone()
     ensures { ShownAloneHasTheZone }
 {}
@@ -238,7 +244,8 @@ pub fn none_is_outside_the_zone()
     ensures { NoneIsOutsideTheZone }
 {}
 
-/// A node that is the amoebot's own or adjacent to one has in it the same occupant, or none, in the area or not.
+/// A node that is the amoebot's own or adjacent to one has in it the same occupant, or none,
+/// in the area or not.
 pub fn beside_holds_the_same()
     ensures { BesideHoldsTheSame }
 {}
@@ -253,7 +260,8 @@ pub fn beside_has_the_same_walls()
     ensures { BesideHasTheSameWalls }
 {}
 
-/// A node of a valid configuration is occupied exactly where it is the head or the tail of an amoebot.
+/// A node of a valid configuration is occupied exactly
+/// where it is the head or the tail of an amoebot.
 pub fn occupied_is_occupant()
     ensures { OccupiedIsOccupant }
 {}
@@ -263,7 +271,8 @@ pub fn serial_turn_is_unique()
     ensures { SerialTurnIsUnique }
 {}
 
-/// Where the values before are those of a valid configuration, the patch the other way round leads back to it.
+/// Where the values before are those of a valid configuration,
+/// the patch the other way round leads back to it.
 pub fn reversed_leads_back()
     ensures { ReversedLeadsBack }
 {}

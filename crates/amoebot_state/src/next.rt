@@ -15,9 +15,11 @@ use tri_lattice::{Area, Node};
 /// The cells of a zone.
 type Names = ArrayVec<CellName, CELL_ROOM>;
 
-/// The cell of an amoebot's zone to be read next, after these, which were read in zone order, the first one first: its own body,
-/// then the nodes that follow from this, then the bodies that follow from the occupants that were read. None exactly where the
-/// zone as these cells tell it has no more. It takes no memory.
+/// The cell of an amoebot's zone to be read next, after these, which were read in zone order,
+/// the first one first: its own body, then the nodes that follow from this,
+/// then the bodies that follow from the occupants that were read.
+/// None exactly where the zone as these cells tell it has no more.
+/// It takes no memory.
 pub fn next_cell(area: &Area, bot: u16, cells: &[(CellName, Cell)]) -> Option<CellName>
     requires plain { IfSome (body_in cells.now bot) IsBotInRange }
     ensures { result ≡ next_cell area.now bot cells.now }

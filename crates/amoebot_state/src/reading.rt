@@ -14,8 +14,10 @@ use tri_lattice::Area;
 /// The most bodies of a zone.
 const MOST_BODIES: usize = 9;
 
-/// What is known of an amoebot's zone while its cells are read in zone order: its body, the nodes and where its pairs lead, once the
-/// body was read, and the other amoebots on the nodes that were read. It grows at its end alone.
+/// What is known of an amoebot's zone while its cells are read in zone order: its body,
+/// the nodes and where its pairs lead, once the body was read,
+/// and the other amoebots on the nodes that were read.
+/// It grows at its end alone.
 #[derive(Drop)]
 pub struct KnownZone {
     bot: u16,
@@ -60,7 +62,8 @@ impl KnownZone {
         self.others.clear();
     }
 
-    /// The cell to be read after so many, where it is known. Where so many cells were read, it is the one that `next_cell` gives.
+    /// The cell to be read after so many, where it is known.
+    /// Where so many cells were read, it is the one that `next_cell` gives.
     pub fn next(&self, read: usize) -> Option<CellName>
         ensures { result ≡ slice_get self.now.names read }
     {

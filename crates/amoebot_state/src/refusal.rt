@@ -19,8 +19,9 @@ impl<T: Drop> From<AllocFailed<T>> for NoMemory {
     }
 }
 
-/// Why there is no world. `BadWall` carries the place of the wall at fault in its list, and all others but `NoMemory` the id of the
-/// amoebot at fault, which is its place in the list.
+/// Why there is no world.
+/// `BadWall` carries the place of the wall at fault in its list,
+/// and all others but `NoMemory` the id of the amoebot at fault, which is its place in the list.
 #[derive(Clone, Copy, Debug, Drop, PartialEq, Eq)]
 pub enum WorldRefusal {
     /// Its head or its tail is outside the area.

@@ -68,7 +68,8 @@ pub(crate) fn push_nodes(nodes: &mut FewNodes, area: &Area, bot: &Bot) -> Ways
     ways
 }
 
-/// How many of the tail's pairs may be ports: none of a contracted amoebot, which has those of its head.
+/// How many of the tail's pairs may be ports: none of a contracted amoebot,
+/// which has those of its head.
 fn tail_pairs(bot: &Bot) -> usize
     ensures value { result ≡ (if is_contracted bot.now then 0 else 6) }
     ensures most { result ≤ 6 }
@@ -76,13 +77,16 @@ fn tail_pairs(bot: &Bot) -> usize
     if bot.is_contracted() { 0 } else { 6 }
 }
 
-/// Adds the node behind a pair of the head, where that is a port and the node lies in the area, and tells where the pair leads. The
-/// pairs before it have added theirs. So the node is new: a port of the head leads to no own node, and no other one leads there.
+/// Adds the node behind a pair of the head, where that is a port and the node lies in the area,
+/// and tells where the pair leads.
+/// The pairs before it have added theirs.
+/// So the node is new: a port of the head leads to no own node, and no other one leads there.
 fn push_head_way(nodes: &mut FewNodes, area: &Area, bot: &Bot, inner: bool, dir: u8) -> Way
     requires plain { IsBotInRange bot.now }
     requires below { dir < 6 }
     requires inner { inner ≡ true → IsTrue (is_in area.now (behind bot.now (port Head dir))) }
-    requires before { nodes.old.items ≡ fold (with_port area.now bot.now) (own_nodes bot.now) (take dir all_ports) }
+    requires before { nodes.old.items
+        ≡ fold (with_port area.now bot.now) (own_nodes bot.now) (take dir all_ports) }
     requires room { length (with_port area.now bot.now nodes.old.items (port Head dir)) ≤ 10 }
     ensures nodes { nodes.new.items ≡ with_port area.now bot.now nodes.old.items (port Head dir) }
     ensures way { result ≡ way_among area.now bot.now nodes.new.items (port Head dir) }
@@ -98,7 +102,8 @@ fn push_head_way(nodes: &mut FewNodes, area: &Area, bot: &Bot, inner: bool, dir:
     Way::To((nodes.len() - 1) as u8)
 }
 
-/// The same for a pair of an expanded amoebot's tail, whose node may be behind a port of its head too.
+/// The same for a pair of an expanded amoebot's tail, whose node may be
+/// behind a port of its head too.
 fn push_tail_way(nodes: &mut FewNodes, area: &Area, bot: &Bot, dir: u8) -> Way
     requires plain { IsBotInRange bot.now }
     requires below { dir < 6 }

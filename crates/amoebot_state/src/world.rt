@@ -25,9 +25,11 @@ use std::alloc::Global;
 use std::marker::Model;
 use tri_lattice::{Area, Node};
 
-/// A world: an area, walls in it, the maxima of the variables, and at most 4,096 amoebots, which are numbered from 0. It is valid:
-/// each amoebot stands in the area, on one node or on two adjacent ones, and on no wall; no node belongs to two amoebots; each
-/// rotation is below 6 and no value is above its maximum.
+/// A world: an area, walls in it, the maxima of the variables, and at most 4,096 amoebots,
+/// which are numbered from 0.
+/// It is valid:
+/// each amoebot stands in the area, on one node or on two adjacent ones, and on no wall;
+/// no node belongs to two amoebots; each rotation is below 6 and no value is above its maximum.
 ///
 /// Beside them it keeps the occupant of each node of the area.
 #[derive(Drop)]
@@ -48,8 +50,10 @@ impl Model for World {
 }
 
 impl World {
-    /// A world of these amoebots, at most 4,096, whose ids are their places in the list, and without walls. Otherwise the first
-    /// fault of the first amoebot that has one: OutOfBox, NotAdjacent, Overlap with an earlier one, BadValue, in this order.
+    /// A world of these amoebots, at most 4,096, whose ids are their places in the list,
+    /// and without walls.
+    /// Otherwise the first fault of the first amoebot that has one: OutOfBox, NotAdjacent,
+    /// Overlap with an earlier one, BadValue, in this order.
     /// NoMemory may come in place of any answer.
     pub fn new(
         alloc: Global,
@@ -61,15 +65,18 @@ impl World {
         requires plain { All IsBotInRange bots.now }
         ensures value { IfOk result (λ w. w ≡ with_these (frame_of area maxes) bots.now) }
         ensures faultless { OnOk result (IsFaultless (frame_of area maxes) bots.now (length bots.now)) }
-        ensures fault { IfErr result (λ e. (e ≡ WorldRefusal.NoMemory) ⊎ IsFirstFault (frame_of area maxes) bots.now e) }
+        ensures fault { IfErr result (λ e.
+            (e ≡ WorldRefusal.NoMemory) ⊎ IsFirstFault (frame_of area maxes) bots.now e) }
     {
         World::walled(alloc, area, &[], maxes, bots)
     }
 
-    /// A world of these walls and these amoebots, at most 16,384 and 4,096, where the ids of the amoebots are their places in the list.
-    /// Otherwise BadWall for the first wall that is outside the area or equals an earlier one; else the first fault of the first
-    /// amoebot that has one: OutOfBox, NotAdjacent, OnWall, Overlap with an earlier one, BadValue, in this order. NoMemory may come in
-    /// place of any answer.
+    /// A world of these walls and these amoebots, at most 16,384 and 4,096,
+    /// where the ids of the amoebots are their places in the list.
+    /// Otherwise BadWall for the first wall that is outside the area or equals an earlier one;
+    /// else the first fault of the first amoebot that has one: OutOfBox, NotAdjacent, OnWall,
+    /// Overlap with an earlier one, BadValue, in this order.
+    /// NoMemory may come in place of any answer.
     pub fn walled(
         alloc: Global,
         area: Area,
@@ -82,8 +89,10 @@ impl World {
         requires plain { All IsBotInRange bots.now }
         ensures value { IfOk result (λ w. w ≡ with_these (walled_frame area walls.now maxes) bots.now) }
         ensures walls { OnOk result (AreWalls area walls.now (length walls.now)) }
-        ensures faultless { OnOk result (IsFaultless (walled_frame area walls.now maxes) bots.now (length bots.now)) }
-        ensures fault { IfErr result (λ e. (e ≡ WorldRefusal.NoMemory) ⊎ IsFirstRefusal area walls.now maxes bots.now e) }
+        ensures faultless { OnOk result (
+            IsFaultless (walled_frame area walls.now maxes) bots.now (length bots.now)) }
+        ensures fault { IfErr result (λ e.
+            (e ≡ WorldRefusal.NoMemory) ⊎ IsFirstRefusal area walls.now maxes bots.now e) }
     {
         let frame = Frame::make(alloc, area, walls, maxes)?;
         World::framed(alloc, frame, bots)
@@ -162,7 +171,8 @@ impl World {
 
     /// Whether a node of an amoebot has an occupant.
     fn is_on_other(&self, bot: &Bot) -> bool
-        ensures { result ≡ (is_some (occupant self.now bot.now.head) || is_some (occupant self.now bot.now.tail)) }
+        ensures { result ≡ (is_some (occupant self.now bot.now.head) || is_some (
+            occupant self.now bot.now.tail)) }
     {
         self.occupant(bot.head).is_some() || self.occupant(bot.tail).is_some()
     }
@@ -170,8 +180,10 @@ impl World {
     fn add(&mut self, bot: &Bot) -> Result<(), WorldRefusal>
         requires few { length self.old.bots < most_bots }
         requires plain { IsBotInRange bot.now }
-        ensures ok { OnOk result ((bot_fault self.old bot.now ≡ None) × (self.new ≡ with_bot self.old bot.now)) }
-        ensures err { IfErr result (λ e. (e ≡ WorldRefusal.NoMemory) ⊎ (bot_fault self.old bot.now ≡ Some e)) }
+        ensures ok { OnOk result ((bot_fault self.old bot.now ≡ None)
+            × (self.new ≡ with_bot self.old bot.now)) }
+        ensures err { IfErr result (λ e.
+            (e ≡ WorldRefusal.NoMemory) ⊎ (bot_fault self.old bot.now ≡ Some e)) }
     {
         match self.fault(bot) {
             Some(fault) => return Err(fault),
@@ -188,7 +200,8 @@ impl World {
         Ok(())
     }
 
-    /// What a world keeps: it is valid, has at most 4,096 amoebots, and each id below their number is an amoebot's.
+    /// What a world keeps: it is valid, has at most 4,096 amoebots,
+    /// and each id below their number is an amoebot's.
     pub fn keeps(&self)
         ensures valid { IsValid self.now }
         ensures few { length self.now.bots ≤ most_bots }
@@ -354,7 +367,8 @@ impl World {
     }
 
     fn push_wall(&self, walls: &mut FewNodes, name: &CellName)
-        requires { length (walls.old.items ++ walls_read self.now ((name.now, Cell.Spot None) ∷ [])) ≤ most_nodes }
+        requires { length (
+            walls.old.items ++ walls_read self.now ((name.now, Cell.Spot None) ∷ [])) ≤ most_nodes }
         ensures { walls.new.items ≡ walls.old.items ++ walls_read self.now ((name.now, Cell.Spot None) ∷ []) }
     {
         if let CellName::Spot(node) = name {
@@ -364,7 +378,8 @@ impl World {
         }
     }
 
-    /// Adds the cells of an amoebot's zone, which has these nodes, with what they hold, and the walls among them.
+    /// Adds the cells of an amoebot's zone, which has these nodes, with what they hold,
+    /// and the walls among them.
     pub(crate) fn put_zone(
         &self,
         cells: &mut ZoneCells,
@@ -386,7 +401,8 @@ impl World {
         self.put_bodies(cells, ids.as_slice());
     }
 
-    /// Adds the cells of these nodes and the walls among them, and tells the other amoebots on them.
+    /// Adds the cells of these nodes and the walls among them,
+    /// and tells the other amoebots on them.
     fn put_nodes(
         &self,
         cells: &mut ZoneCells,
@@ -397,7 +413,8 @@ impl World {
         requires room { array_vec_len cells.old + length nodes.now ≤ most_cells }
         requires few { length nodes.now ≤ most_nodes }
         requires no_walls { walls.old.items ≡ [] }
-        ensures cells { cells.new.items ≡ cells.old.items ++ map (λ v. (CellName.Spot v, Cell.Spot (occupant self.now v))) nodes.now }
+        ensures cells { cells.new.items
+            ≡ cells.old.items ++ map (λ v. (CellName.Spot v, Cell.Spot (occupant self.now v))) nodes.now }
         ensures walls { walls.new.items ≡ filter (is_wall self.now) nodes.now }
         ensures others { result.items ≡ others (occupant self.now) bot nodes.now }
     {
@@ -434,14 +451,16 @@ impl World {
     fn put_bodies(&self, cells: &mut ZoneCells, ids: &[u16])
         requires room { array_vec_len cells.old + length ids.now ≤ most_cells }
         requires there { All (λ i. i < length self.now.bots) ids.now }
-        ensures { cells.new.items ≡ cells.old.items ++ filter_map (λ i. shown_cell self.now (CellName.Body i)) ids.now }
+        ensures { cells.new.items
+            ≡ cells.old.items ++ filter_map (λ i. shown_cell self.now (CellName.Body i)) ids.now }
     {
         for id in ids {
             cells.push((CellName::Body(*id), Cell::Body(*self.bot(*id))));
         }
     }
 
-    /// Gives the cells of the patch their new values, which have to lead to a valid world with the same ids.
+    /// Gives the cells of the patch their new values, which have to lead
+    /// to a valid world with the same ids.
     pub fn apply(&mut self, patch: &Patch)
         requires { HasPatched self.old (plain_patch patch.now) }
         ensures { IsPatched self.old (plain_patch patch.now) self.new }

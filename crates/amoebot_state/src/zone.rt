@@ -21,7 +21,8 @@ pub(crate) type Nodes = ArrayVec<Node, ROOM>;
 /// The other amoebots on them.
 pub(crate) type Ids = ArrayVec<u16, ROOM>;
 
-/// The nodes of an amoebot's zone: its own, and those behind its ports that lie in the area, each once.
+/// The nodes of an amoebot's zone: its own, and those behind its ports that lie in the area,
+/// each once.
 pub(crate) fn zone_nodes(area: &Area, bot: &Bot) -> Nodes
     requires { IsBotInRange bot.now }
     ensures value { result.items ≡ zone_nodes area.now bot.now }

@@ -1,4 +1,5 @@
--- A box of nodes, and the numbers of its nodes. All of it is this project's profile: the paper's lattice has no bounds.
+-- A box of nodes, and the numbers of its nodes.
+-- All of it is this project's profile: the paper's lattice has no bounds.
 use Rattle.std.specs.Prelude.{ℕ, ℤ, pos, negsuc, neg_ℤ, ◌+ℤ◌, ◌-ℤ◌, ◌≤ℤ◌, nat_lt, is_some, ◌+◌, ◌*◌, ◌/◌, ◌%◌, ◌≤◌, Bool, false, ◌&&◌, if◌then◌else◌}
 use Rattle.std.specs.declared.option.Option.{Option}
 use Rattle.std.specs.Option.{option_and_then, option_map}
@@ -12,7 +13,8 @@ pub record Extent : Type 0 where
   pub w : ℕ
   pub h : ℕ
 
--- the farthest from 0 that either coordinate of a box's beginning may be, and the most nodes of a side
+-- the farthest from 0 that either coordinate of a box's beginning may be,
+-- and the most nodes of a side
 abbrev pub most_start : ℕ
 most_start = 4096
 
@@ -37,7 +39,8 @@ axis_offset (negsuc n) side = None
 
 -- the number of a node of the box, row by row: (y - y0) * w + (x - x0); none outside
 abbrev pub index_of : Extent → Node → Option ℕ
-index_of a v = option_and_then (λ i. option_map (λ j. j * a.w + i) (axis_offset (v.y -ℤ a.y0) a.h)) (axis_offset (v.x -ℤ a.x0) a.w)
+index_of a v = option_and_then (λ i. option_map (λ j. j * a.w + i) (axis_offset (v.y -ℤ a.y0) a.h))
+    (axis_offset (v.x -ℤ a.x0) a.w)
 
 -- the node lies in the box
 abbrev pub is_in : Extent → Node → Bool
@@ -47,7 +50,8 @@ is_in a v = is_some (index_of a v)
 abbrev pub node_at : Extent → ℕ → Node
 node_at a n = record { x = a.x0 +ℤ pos (n % a.w); y = a.y0 +ℤ pos (n / a.w) }
 
--- what lies so far from the beginning of a side of this length is in the side, and at neither end of it
+-- what lies so far from the beginning of a side of this length is in the side,
+-- and at neither end of it
 abbrev pub is_amid_side : ℤ → ℕ → Bool
 is_amid_side (pos n) side = nat_lt 0 n && nat_lt (n + 1) side
 is_amid_side (negsuc n) side = false

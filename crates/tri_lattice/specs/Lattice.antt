@@ -1,5 +1,7 @@
--- The triangular lattice of the paper's geometric variant: nodes, neighbours, adjacency and distance. The coordinates, which
--- step has which number, and the range of `IsNear` are this project's profile.
+-- The triangular lattice of the paper's geometric variant: nodes, neighbours,
+-- adjacency and distance.
+-- The coordinates, which step has which number, and the range
+-- of `IsNear` are this project's profile.
 use Rattle.std.specs.Prelude.{◌≡◌, ℕ, zero, suc, max, ℤ, pos, negsuc, ◌+ℤ◌, ◌-ℤ◌, ◌≤ℤ◌, unsigned_abs, ◌+◌, ◌%◌, ◌<◌, List, [], ◌∷◌, Bool, ◌&&◌}
 use Rattle.std.specs.List.{list_any}
 use Rattle.std.specs.Ordering.{int_eq}

@@ -49,14 +49,16 @@ BoxIsItsBounds = (a : Extent) (v : Node) → IsTrue (is_in a v) ↔ IsWithin a v
 
 -- the number of a node is (y - y0) * w + (x - x0)
 abbrev pub NumberCountsRows : Type 0
-NumberCountsRows = (a : Extent) (v : Node) (k : ℕ) → index_of a v ≡ Some k → pos k ≡ (((v.y -ℤ a.y0) *ℤ pos a.w) +ℤ (v.x -ℤ a.x0))
+NumberCountsRows = (a : Extent) (v : Node) (k : ℕ) → index_of a v ≡ Some k
+    → pos k ≡ (((v.y -ℤ a.y0) *ℤ pos a.w) +ℤ (v.x -ℤ a.x0))
 
 -- each number below w * h is the number of exactly one node: of the node with that number
 abbrev pub NodesHaveNumbers : Type 0
 NodesHaveNumbers = (a : Extent) (k : ℕ) → k < a.w * a.h → index_of a (node_at a k) ≡ Some k
 
 abbrev pub NumbersHaveNodes : Type 0
-NumbersHaveNodes = (a : Extent) (v : Node) (k : ℕ) → index_of a v ≡ Some k → (k < a.w * a.h) × (node_at a k ≡ v)
+NumbersHaveNodes =
+    (a : Extent) (v : Node) (k : ℕ) → index_of a v ≡ Some k → (k < a.w * a.h) × (node_at a k ≡ v)
 
 -- sets with the same nodes are connected alike
 abbrev pub SameKeeps : Type 0
@@ -64,7 +66,8 @@ SameKeeps = (S T : Node → Bool) → SameNodes S T → IsConnected S → IsConn
 
 -- putting in a neighbour of one of its nodes leaves a connected set connected
 abbrev pub PuttingKeeps : Type 0
-PuttingKeeps = (S T : Node → Bool) (v a : Node) → IsConnected S → IsTrue (S a) → Adjacent a v → PutsIn S T v → IsConnected T
+PuttingKeeps = (S T : Node → Bool) (v a : Node) → IsConnected S
+    → IsTrue (S a) → Adjacent a v → PutsIn S T v → IsConnected T
 
 -- no node, or one alone, is connected
 abbrev pub FewAreConnected : Type 0

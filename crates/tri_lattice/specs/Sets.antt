@@ -1,6 +1,6 @@
--- Sets of nodes, given by a test of each node; paths in them, and the connected ones. Paths and connected sets are those of
--- graphs, here of the paper's lattice; that a set is given by a test, and that the empty one is connected, is this project's
--- profile.
+-- Sets of nodes, given by a test of each node; paths in them, and the connected ones.
+-- Paths and connected sets are those of graphs, here of the paper's lattice;
+-- that a set is given by a test, and that the empty one is connected, is this project's profile.
 use Rattle.std.specs.Prelude.{◌≡◌, ◌≢◌, Bool, true, false, IsTrue}
 use Rattle.tri_lattice.specs.declared.node.Node.{Node}
 pub use Rattle.tri_lattice.specs.Lattice.{Adjacent}

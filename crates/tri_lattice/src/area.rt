@@ -29,8 +29,8 @@ impl Model for Area {
 }
 
 impl Area {
-    /// The area that begins at (x0, y0) and is `w` nodes wide and `h` high; None exactly where `x0` or
-    /// `y0` is outside -4096..=4096 or `w` or `h` is outside 1..=128.
+    /// The area that begins at (x0, y0) and is `w` nodes wide and `h` high;
+    /// None exactly where `x0` or `y0` is outside -4096..=4096 or `w` or `h` is outside 1..=128.
     pub fn new(x0: i16, y0: i16, w: u16, h: u16) -> Option<Area>
         ensures some { IsSome result ↔ IsArea (record { x0 = x0; y0 = y0; w = w; h = h }) }
         ensures value { IfSome result (λ a. a ≡ record { x0 = x0; y0 = y0; w = w; h = h }) }
@@ -136,7 +136,8 @@ fn side_offset(at: i16, from: i16, side: u16) -> Option<u32>
     }
 }
 
-/// Whether a coordinate is in the side of this length that begins at `from`, and at neither end of it.
+/// Whether a coordinate is in the side of this length that begins at `from`,
+/// and at neither end of it.
 fn is_amid_side(at: i16, from: i16, side: u16) -> bool
     ensures { result ≡ is_amid_side (at -ℤ from) side }
 {

@@ -1,7 +1,8 @@
 //! The triangular lattice: nodes, directions, areas and connected sets of nodes.
 //!
-//! The lattice is that of the amoebot model's geometric variant. Its coordinates, the numbers of the
-//! six directions and the bounds of an area are this project's profile.
+//! The lattice is that of the amoebot model's geometric variant.
+//! Its coordinates, the numbers of the six directions and the bounds
+//! of an area are this project's profile.
 #![tactic(auto)]
 
 mod area;

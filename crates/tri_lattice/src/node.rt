@@ -56,8 +56,8 @@ pub fn adjacent(a: Node, b: Node) -> Option<Dir>
     None
 }
 
-/// How far apart two nodes are: the greatest of `|dx|`, `|dy|` and `|dx + dy|`. All coordinates lie in
-/// -16000..=16000.
+/// How far apart two nodes are: the greatest of `|dx|`, `|dy|` and `|dx + dy|`.
+/// All coordinates lie in -16000..=16000.
 pub fn distance(a: Node, b: Node) -> u32
     requires a_near { IsNear a }
     requires b_near { IsNear b }
