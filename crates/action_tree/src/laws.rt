@@ -4,7 +4,6 @@ ghost use Rattle.action_tree.specs.Laws.{WritableIsGiven, GivenIsWritable, Words
 ghost use Rattle.action_tree.specs.Laws.{SamplesAreWritable, LimitsAreSharp};
 
 /// The test passes exactly the trees that the productions of the grammar give.
-#[tactic(auto, using(crate::proofs::ProducedStatements::program_from, crate::proofs::MeasuredStatements::program_passes))]
 pub fn writable_is_given()
     ensures given { WritableIsGiven }
     ensures writable { GivenIsWritable }
