@@ -19,7 +19,6 @@ pub fn guard_is_aside()
 
 /// In an elected world the first amoebot with `leader` 1 is the leader.
 /// Each program is `erosion` or is not.
-#[tactic(auto, using(crate::proofs::LeaderLemmas::leader_is_elected, crate::proofs::TreesDecided::erosion_or_not))]
 pub fn election_laws()
     ensures leader { LeaderIsElected }
     ensures decided { ErosionOrNot }
