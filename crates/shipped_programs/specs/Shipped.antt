@@ -1,4 +1,5 @@
--- The shipped programs by their names, and parts of `hexagon`. The trees are the samples of `action_tree`.
+-- The shipped programs by their names, and parts of `hexagon`.
+-- The trees are the samples of `action_tree`.
 use Rattle.std.specs.Prelude.{ℕ, true, false, List, [], ◌∷◌, codes}
 use Rattle.action_tree.specs.Trees as tree
 use Rattle.action_tree.specs.Trees.{Guard, PortExpr, Sum, Stmt, Program}
@@ -37,11 +38,13 @@ run_ends =
 
 abbrev pub erode_guard : Guard
 erode_guard =
-    sample.and (sample.own_is (codes "cand") 1 ∷ sample.equals (tree.count (sample.example_name (codes "p")) Ports run_ends)
+    sample.and (sample.own_is (codes "cand") 1
+    ∷ sample.equals (tree.count (sample.example_name (codes "p")) Ports run_ends)
     (tree.number (sample.literal 1)) ∷ [])
 
 abbrev pub erode_body : List Stmt
-erode_body = tree.put (sample.example_name (codes "cand")) (sample.sum_of_term (tree.number (sample.literal 0))) ∷ []
+erode_body =
+    tree.put (sample.example_name (codes "cand")) (sample.sum_of_term (tree.number (sample.literal 0))) ∷ []
 
 -- ---- parts of `hexagon`
 
@@ -57,7 +60,8 @@ is_still r = sample.or (state_is r 1 ∷ state_is r 4 ∷ [])
 
 abbrev parent_is_here : Guard
 parent_is_here =
-    sample.equals (tree.of_port sample.p (sample.example_name (codes "parent"))) (tree.direction tree.peer_side sample.p)
+    sample.equals (tree.of_port sample.p (sample.example_name (codes "parent")))
+    (tree.direction tree.peer_side sample.p)
 
 abbrev pub next_is_still : Guard
 next_is_still = is_still (tree.turned sample.p (sample.literal 5))
@@ -66,7 +70,8 @@ next_is_still = is_still (tree.turned sample.p (sample.literal 5))
 abbrev pub last_retired : Guard
 last_retired =
     sample.and (is_still sample.p ∷ tree.negation
-    (sample.and (tree.tested tree.linked (tree.turned sample.p (sample.literal 5)) ∷ next_is_still ∷ [])) ∷ [])
+    (sample.and (tree.tested tree.linked (tree.turned sample.p (sample.literal 5))
+    ∷ next_is_still ∷ [])) ∷ [])
 
 -- one that is still, beside which there is room
 abbrev pub room : Guard
@@ -88,7 +93,8 @@ head_follower =
 abbrev pub follower_turned : Sum
 follower_turned =
     tree.term_then false tree.inner (tree.term_then true (tree.direction tree.own_side q)
-    (tree.term_then false (tree.direction tree.peer_side q) (sample.sum_of_term (tree.number (sample.literal 3)))))
+    (tree.term_then false (tree.direction tree.peer_side q)
+    (sample.sum_of_term (tree.number (sample.literal 3)))))
 
 -- the guards and the statements of its actions
 abbrev set_to : List ℕ → ℕ → Stmt
@@ -110,11 +116,13 @@ abbrev pub root_body : List Stmt
 root_body = set_to (codes "parent") 6 ∷ set_to (codes "state") 3 ∷ []
 
 abbrev pub follow_guard : Guard
-follow_guard = sample.and (tree.atom tree.contracted ∷ sample.own_is (codes "state") 0 ∷ sample.some_port (p_is 2 3) ∷ [])
+follow_guard = sample.and
+    (tree.atom tree.contracted ∷ sample.own_is (codes "state") 0 ∷ sample.some_port (p_is 2 3) ∷ [])
 
 abbrev pub follow_body : List Stmt
 follow_body =
-    let_q (p_is 2 3) ∷ tree.put (sample.example_name (codes "parent")) (sample.sum_of_term (tree.direction tree.own_side q))
+    let_q (p_is 2 3)
+    ∷ tree.put (sample.example_name (codes "parent")) (sample.sum_of_term (tree.direction tree.own_side q))
     ∷ set_to (codes "state") 2 ∷ []
 
 abbrev pub aimed_at : Guard
@@ -123,23 +131,28 @@ aimed_at =
     (tree.direction tree.peer_side sample.p) ∷ [])
 
 abbrev pub retire_guard : Guard
-retire_guard = sample.and (tree.atom tree.contracted ∷ sample.own_is (codes "state") 3 ∷ sample.some_port aimed_at ∷ [])
+retire_guard =
+    sample.and (tree.atom tree.contracted ∷ sample.own_is (codes "state") 3 ∷ sample.some_port aimed_at ∷ [])
 
 abbrev pub retire_body : List Stmt
 retire_body =
     let_q last_retired ∷ tree.put (sample.example_name (codes "aim"))
-    (sample.sum_of_term (tree.direction tree.own_side (tree.turned q (sample.literal 5)))) ∷ set_to (codes "state") 4 ∷ []
+    (sample.sum_of_term (tree.direction tree.own_side (tree.turned q (sample.literal 5))))
+    ∷ set_to (codes "state") 4 ∷ []
 
 abbrev pub go_guard : Guard
-go_guard = sample.and (tree.atom tree.contracted ∷ sample.own_is (codes "state") 3 ∷ sample.some_port room ∷ [])
+go_guard =
+    sample.and (tree.atom tree.contracted ∷ sample.own_is (codes "state") 3 ∷ sample.some_port room ∷ [])
 
 abbrev pub drag_guard : Guard
 drag_guard =
-    sample.and (tree.atom tree.expanded ∷ in_state 2 3 ∷ tree.negation (sample.some_port (state_is sample.p 0))
+    sample.and (tree.atom tree.expanded ∷ in_state 2 3
+    ∷ tree.negation (sample.some_port (state_is sample.p 0))
     ∷ sample.some_port tail_follower ∷ [])
 
 abbrev pub parent_turned : Stmt
-parent_turned = tree.put_of q (sample.example_name (codes "parent")) (sample.sum_of_term (tree.mod6 follower_turned))
+parent_turned =
+    tree.put_of q (sample.example_name (codes "parent")) (sample.sum_of_term (tree.mod6 follower_turned))
 
 abbrev pub drag_body : List Stmt
 drag_body = let_q tail_follower ∷ parent_turned ∷ []

@@ -62,7 +62,8 @@ pub(crate) fn number(alloc: Global, value: u32) -> Result<Sum, AllocError>
 
 /// `TERM = NUMBER`
 pub(crate) fn is(alloc: Global, term: Term, value: u32) -> Result<Guard, AllocError>
-    ensures { IfOk result (λ g. guard_of g ≡ sample.equals (term_of term) (tree.number (sample.literal value))) }
+    ensures { IfOk result (λ g.
+        guard_of g ≡ sample.equals (term_of term) (tree.number (sample.literal value))) }
 {
     let left = one(alloc, term)?;
     Ok(Guard::Compare(left, Cmp::Eq, number(alloc, value)?))
@@ -140,7 +141,8 @@ pub(crate) fn turned(alloc: Global, port: PortExpr, by: u32) -> Result<PortExpr,
 
 /// `NAME := NUMBER`
 pub(crate) fn set_to(alloc: Global, name: Word, value: u32) -> Result<Stmt, AllocError>
-    ensures { IfOk result (λ s. stmt_of s ≡ tree.put (name_of name) (sample.sum_of_term (tree.number (sample.literal value)))) }
+    ensures { IfOk result (λ s.
+        stmt_of s ≡ tree.put (name_of name) (sample.sum_of_term (tree.number (sample.literal value)))) }
 {
     Ok(Stmt::Put(name, number(alloc, value)?))
 }

@@ -60,7 +60,8 @@ fn lead(alloc: Global) -> Result<Action, AllocError>
 fn lead_body(alloc: Global) -> Result<Vec<Stmt>, AllocError>
     ensures { IfOk result (λ ss.
         map stmt_of ss.items
-        ≡ tree.put (sample.example_name (codes "leader")) (sample.sum_of_term (tree.number (sample.literal 1))) ∷ []) }
+        ≡ tree.put (sample.example_name (codes "leader")) (sample.sum_of_term (
+        tree.number (sample.literal 1))) ∷ []) }
 {
     Ok(vec![in alloc; set_to(alloc, leader(), 1)?]?)
 }
@@ -91,7 +92,8 @@ fn no_other(alloc: Global) -> Result<Guard, AllocError>
 }
 
 fn erode(alloc: Global) -> Result<Action, AllocError>
-    ensures { IfOk result (λ a. action_of a ≡ sample.action (codes "erode") erode_guard erode_body tree.no_move) }
+    ensures { IfOk result (λ a.
+        action_of a ≡ sample.action (codes "erode") erode_guard erode_body tree.no_move) }
 {
     let body = erode_body(alloc)?;
     let guard = erode_guard(alloc)?;

@@ -111,14 +111,16 @@ fn in_state(alloc: Global, one: u32, two: u32) -> Result<Guard, AllocError>
 /// `p . NAME = peer_dir p`
 fn points_here(alloc: Global, name: Word) -> Result<Guard, AllocError>
     ensures { IfOk result (λ g.
-        guard_of g ≡ sample.equals (tree.of_port sample.p (name_of name)) (tree.direction tree.peer_side sample.p)) }
+        guard_of g ≡ sample.equals (tree.of_port sample.p (name_of name))
+        (tree.direction tree.peer_side sample.p)) }
 {
     let here = one(alloc, Term::PeerDir(p()))?;
     Ok(Guard::Compare(one(alloc, Term::Of(p(), name))?, Cmp::Eq, here))
 }
 
 fn root(alloc: Global) -> Result<Action, AllocError>
-    ensures { IfOk result (λ a. action_of a ≡ sample.action (codes "root") root_guard root_body tree.no_move) }
+    ensures { IfOk result (λ a.
+        action_of a ≡ sample.action (codes "root") root_guard root_body tree.no_move) }
 {
     let body = root_body(alloc)?;
     let guard = root_guard(alloc)?;
@@ -146,7 +148,8 @@ fn root_body(alloc: Global) -> Result<Vec<Stmt>, AllocError>
 }
 
 fn follow(alloc: Global) -> Result<Action, AllocError>
-    ensures { IfOk result (λ a. action_of a ≡ sample.action (codes "follow") follow_guard follow_body tree.no_move) }
+    ensures { IfOk result (λ a.
+        action_of a ≡ sample.action (codes "follow") follow_guard follow_body tree.no_move) }
 {
     let body = follow_body(alloc)?;
     let guard = follow_guard(alloc)?;
@@ -179,7 +182,8 @@ fn let_and_put(
         map stmt_of ss.items
         ≡ tree.let_be (sample.example_name (codes "q")) (sample.first_port (guard_of guard))
         ∷ tree.put (name_of name) (sample.sum_of_term (term_of term))
-        ∷ tree.put (sample.example_name (codes "state")) (sample.sum_of_term (tree.number (sample.literal next))) ∷ []) }
+        ∷ tree.put (sample.example_name (codes "state")) (sample.sum_of_term (
+        tree.number (sample.literal next))) ∷ []) }
 {
     let port = first_port(alloc, guard)?;
     let value = one(alloc, term)?;
@@ -194,13 +198,15 @@ fn let_and_put(
 
 /// `let q := first p in ports ( GUARD )`
 fn let_q(alloc: Global, guard: Guard) -> Result<Stmt, AllocError>
-    ensures { IfOk result (λ s. stmt_of s ≡ tree.let_be (sample.example_name (codes "q")) (sample.first_port (guard_of guard))) }
+    ensures { IfOk result (λ s.
+        stmt_of s ≡ tree.let_be (sample.example_name (codes "q")) (sample.first_port (guard_of guard))) }
 {
     Ok(Stmt::Let(Word::new(b"q", 0), first_port(alloc, guard)?))
 }
 
 fn retire(alloc: Global) -> Result<Action, AllocError>
-    ensures { IfOk result (λ a. action_of a ≡ sample.action (codes "retire") retire_guard retire_body tree.no_move) }
+    ensures { IfOk result (λ a.
+        action_of a ≡ sample.action (codes "retire") retire_guard retire_body tree.no_move) }
 {
     let body = retire_body(alloc)?;
     let guard = retire_guard(alloc)?;
@@ -217,7 +223,8 @@ fn retire_guard(alloc: Global) -> Result<Guard, AllocError>
 fn root_beside(alloc: Global, asked: Guard) -> Result<Guard, AllocError>
     ensures { IfOk result (λ g.
         guard_of g
-        ≡ sample.and (tree.atom tree.contracted ∷ sample.own_is (codes "state") 3 ∷ sample.some_port (guard_of asked) ∷ [])) }
+        ≡ sample.and (tree.atom tree.contracted ∷ sample.own_is (codes "state") 3
+        ∷ sample.some_port (guard_of asked) ∷ [])) }
 {
     let beside = some_port(alloc, asked)?;
     let root = own_state_is(alloc, 3)?;
@@ -241,7 +248,8 @@ fn retire_body(alloc: Global) -> Result<Vec<Stmt>, AllocError>
     let_and_put(alloc, last, aim(), Term::Dir(port), 4)
 }
 
-/// `( p . state = 1 or p . state = 4 ) and not ( linked turn p 5 and ( turn p 5 . state = 1 or turn p 5 . state = 4 ) )`
+/// `( p . state = 1 or p . state = 4 ) and not ( linked turn p 5 and ( turn p 5 . state =
+/// 1 or turn p 5 . state = 4 ) )`
 fn last_retired(alloc: Global) -> Result<Guard, AllocError>
     ensures { IfOk result (λ g. guard_of g ≡ last_retired) }
 {
@@ -253,7 +261,8 @@ fn last_retired(alloc: Global) -> Result<Guard, AllocError>
 /// `linked turn p 5 and ( turn p 5 . state = 1 or turn p 5 . state = 4 )`
 fn still_follows(alloc: Global) -> Result<Guard, AllocError>
     ensures { IfOk result (λ g.
-        guard_of g ≡ sample.and (tree.tested tree.linked (tree.turned sample.p (sample.literal 5)) ∷ next_is_still ∷ [])) }
+        guard_of g ≡ sample.and (
+        tree.tested tree.linked (tree.turned sample.p (sample.literal 5)) ∷ next_is_still ∷ [])) }
 {
     let port = turned(alloc, p(), 5)?;
     let still = next_is_still(alloc)?;
@@ -355,9 +364,11 @@ fn tail_follower(alloc: Global) -> Result<Guard, AllocError>
 fn follower_at_tail(alloc: Global, asked: Guard) -> Result<Guard, AllocError>
     ensures { IfOk result (λ g.
         guard_of g
-        ≡ sample.and (tree.negation (tree.tested tree.at_head sample.p) ∷ sample.there_is sample.p (codes "state") 2
+        ≡ sample.and (
+        tree.negation (tree.tested tree.at_head sample.p) ∷ sample.there_is sample.p (codes "state") 2
         ∷ guard_of asked
-        ∷ sample.equals (tree.of_port sample.p (sample.example_name (codes "parent"))) (tree.direction tree.peer_side sample.p)
+        ∷ sample.equals (tree.of_port sample.p (sample.example_name (codes "parent")))
+        (tree.direction tree.peer_side sample.p)
         ∷ [])) }
 {
     let (asked, at_tail) = beside(asked, not(alloc, Guard::AtHead(p())))?;
@@ -405,7 +416,8 @@ fn part(minus: bool, term: Term) -> Part
 }
 
 fn rest(alloc: Global) -> Result<Action, AllocError>
-    ensures { IfOk result (λ a. action_of a ≡ sample.action (codes "rest") rest_guard [] (tree.contract Tail)) }
+    ensures { IfOk result (λ a.
+        action_of a ≡ sample.action (codes "rest") rest_guard [] (tree.contract Tail)) }
 {
     Ok(action(
         Word::new(b"rest", 0),

@@ -11,8 +11,10 @@ use amoebot_state::NoMemory;
 use std::alloc::{AllocError, Global};
 use text_tokens::ReadRefusal;
 
-/// The text of `hexagon`, in which amoebots of a common chirality gather in a hexagon round a seed. Its variable `state` is 0
-/// idle, 1 seed, 2 follower, 3 root, 4 retired; in `parent` and `aim` 6 stands for no direction. The seed starts with `aim` 0.
+/// The text of `hexagon`, in which amoebots of a common chirality gather in a hexagon round a seed.
+/// Its variable `state` is 0 idle, 1 seed, 2 follower, 3 root, 4 retired;
+/// in `parent` and `aim` 6 stands for no direction.
+/// The seed starts with `aim` 0.
 pub const HEXAGON: &str = "\
 program
 guard off
@@ -57,8 +59,8 @@ move contract tail
 end
 ";
 
-/// The text of `erosion`, in which contracted amoebots, which all start with `cand` 1 and `leader` 0, give up to be a leader
-/// until one is left.
+/// The text of `erosion`, in which contracted amoebots, which all start with `cand` 1 and `leader`
+/// 0, give up to be a leader until one is left.
 pub const EROSION: &str = "\
 program
 guard off
@@ -74,7 +76,8 @@ do cand := 0
 end
 ";
 
-/// The text of `line`, in which the amoebots of one row with a common orientation gather at the border of the area.
+/// The text of `line`, in which the amoebots of one row with a common orientation
+/// gather at the border of the area.
 pub const LINE: &str = "\
 program
 guard off
@@ -99,7 +102,8 @@ pub enum Shipped {
 }
 
 impl Shipped {
-    /// The shipped program with a name; None exactly for another name than `hexagon`, `erosion` and `line`.
+    /// The shipped program with a name; None exactly for another name than `hexagon`,
+    /// `erosion` and `line`.
     pub fn named(name: &str) -> Option<Shipped>
         ensures some { IfSome result (λ s. name.now ≡ shipped_name s) }
         ensures none { IfNone result ((s : Shipped) → name.now ≢ shipped_name s) }
@@ -128,9 +132,11 @@ impl Shipped {
     }
 }
 
-/// The text of the shipped program with a name; None exactly for another name than `hexagon`, `erosion` and `line`.
+/// The text of the shipped program with a name; None exactly for another name than `hexagon`,
+/// `erosion` and `line`.
 pub fn shipped_text(name: &str) -> Option<&'static str>
-    ensures some { IfSome result (λ text. (s : Shipped) × (name.now ≡ shipped_name s) × (text.now ≡ text_of s)) }
+    ensures some { IfSome result (λ text.
+        (s : Shipped) × (name.now ≡ shipped_name s) × (text.now ≡ text_of s)) }
     ensures none { IfNone result ((s : Shipped) → name.now ≢ shipped_name s) }
 {
     match Shipped::named(name)? {
@@ -140,9 +146,12 @@ pub fn shipped_text(name: &str) -> Option<&'static str>
     }
 }
 
-/// The shipped program with a name; None exactly for another name than `hexagon`, `erosion` and `line`. All of its lines are 0.
+/// The shipped program with a name; None exactly for another name than `hexagon`,
+/// `erosion` and `line`.
+/// All of its lines are 0.
 pub fn shipped_program(alloc: Global, name: &str) -> Result<Option<Checked>, NoMemory>
-    ensures some { IfOk result (λ o. IfSome o (λ program. (s : Shipped) × (name.now ≡ shipped_name s) × (program ≡ tree_of s))) }
+    ensures some { IfOk result (λ o.
+        IfSome o (λ program. (s : Shipped) × (name.now ≡ shipped_name s) × (program ≡ tree_of s))) }
     ensures none { IfOk result (λ o. IfNone o ((s : Shipped) → name.now ≢ shipped_name s)) }
 {
     match Shipped::named(name) {
