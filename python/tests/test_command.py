@@ -1,5 +1,7 @@
 """The command line, and an installation in an environment of its own."""
 
+import contextlib
+import io
 import json
 import os
 import pathlib
@@ -8,18 +10,24 @@ import subprocess
 import sys
 import tempfile
 import unittest
+from unittest import mock
 
 from common import LIGHT, TOP, example
-from pogyawin import Shape, executable, read, replay, rewind, run
+from pogyawin import Shape, read, replay, rewind, run
+from pogyawin.__main__ import main
 
 SOURCES = str(TOP / "python/src")
 
 
-def asked(*words, text="", **more):
+def asked(*words, text=""):
     """The status of a call of the command line, what it wrote, and what it said."""
-    how = {"env": {**os.environ, "PYTHONPATH": SOURCES, "AMOEBOT": executable()}, "timeout": 60, **more}
-    ended = subprocess.run([sys.executable, "-m", "pogyawin", *words], input=text.encode(), capture_output=True, **how)
-    return ended.returncode, ended.stdout.decode(), ended.stderr.decode()
+    read, wrote, told = io.TextIOWrapper(io.BytesIO(text.encode())), io.StringIO(), io.StringIO()
+    with mock.patch("sys.stdin", read), contextlib.redirect_stdout(wrote), contextlib.redirect_stderr(told):
+        try:
+            status = main(words)
+        except SystemExit as ended:
+            status = ended.code
+    return status, wrote.getvalue(), told.getvalue()
 
 
 class Commands(unittest.TestCase):
@@ -31,6 +39,11 @@ class Commands(unittest.TestCase):
                 status, told, _ = asked(command, "--help")
                 self.assertEqual(status, 0)
                 self.assertIn(f"pogyawin {command}", told)
+
+    def test_as_a_program(self):
+        how = {"input": b"refused 6 Unexpected\n", "capture_output": True, "timeout": 60}
+        ended = subprocess.run([sys.executable, "-m", "pogyawin", "draw"], env={**os.environ, "PYTHONPATH": SOURCES}, **how)
+        self.assertEqual((ended.returncode, ended.stdout, ended.stderr), (3, b"", b"refused 6 Unexpected\n"))
 
     def test_from_a_shape_to_rest(self):
         program = example("light_program")
@@ -69,11 +82,12 @@ class Commands(unittest.TestCase):
 
     def test_a_sweep_with_a_fault(self):
         with tempfile.TemporaryDirectory() as folder:
-            for name, text in (("a", str(LIGHT)), ("b", "amoebot 1 program"), ("c", str(LIGHT))):
-                pathlib.Path(folder, name).write_text(text)
-            status, table, _ = asked("sweep", "--jobs", "2", "run", "a", "b", "c", cwd=folder)
+            files = [f"{folder}/{name}" for name in "abc"]
+            for file, text in zip(files, (str(LIGHT), "amoebot 1 program", str(LIGHT))):
+                pathlib.Path(file).write_text(text)
+            status, table, _ = asked("sweep", "--jobs", "2", "run", *files)
             self.assertEqual(status, 0)
-            self.assertEqual(table, "file,failure,answer\na,,2\nb,Refused,refused 1 Truncated\nc,,2\n")
+            self.assertEqual(table.replace(f"{folder}/", ""), "file,failure,answer\na,,2\nb,Refused,refused 1 Truncated\nc,,2\n")
             self.assertEqual(read(pathlib.Path(folder, "c.run").read_text()), run(LIGHT))
 
     def test_faults(self):
@@ -82,7 +96,8 @@ class Commands(unittest.TestCase):
         self.assertEqual(asked("json", "/nowhere")[0], 1)
         self.assertEqual(asked("shape", "row", "3", "4")[0], 1)
         self.assertEqual(asked("film", "--variable", "lot", text=str(LIGHT))[0], 1)
-        self.assertEqual(asked("json", text=str(LIGHT), env={**os.environ, "PYTHONPATH": SOURCES, "AMOEBOT": "/nowhere"})[0], 9)
+        with mock.patch.dict(os.environ, AMOEBOT="/nowhere"):
+            self.assertEqual(asked("json", text=str(LIGHT))[0], 9)
 
 
 class Installed(unittest.TestCase):

@@ -20,7 +20,7 @@ class WrongWords(CallError, status=2):
     """The words are no command. `WrongWords.status == 2`"""
 
 class Refused(CallError, status=3):
-    """The text has a fault: the line of the first one from 1 on, or 0 for the text as a whole, and its kind.
+    """The text that was sent has a fault: the line of the first one from 1 on, or 0 for the whole text, and its kind.
     `str(Refused(5, "BadByte")) == "refused 5 BadByte" and Refused(5, "BadByte").line == 5`"""
 
     def __init__(self, line: int, kind: str) -> None:
