@@ -71,10 +71,10 @@ pub record IsAnswered
 
 -- What the ending of a call comes to, by its command and by what is owed for it.
 -- `Has` says that the input has these bytes, and `Writes` that a text and nothing else was written.
--- `ReadFails`, `WriteFails` and `Untouched` are the causes of the three
--- statuses that no document owes.
--- `IsFault` holds of those with which the call may end,
--- and `IsOutage` of those with which it may end without a read.
+-- `ReadFails` and `WriteFails` are the causes of a fault,
+-- and `Untouched` says that nothing was written.
+-- `IsFault` holds of the statuses that may come in place of what is owed for bytes that were read.
+-- `IsOutage` holds of those that may come in place of what is owed where nothing is read.
 pub record EndingTells
     (command : Option Command) (Has Writes : List ℕ → Type 0) (ReadFails WriteFails Untouched : Type 0)
     (IsFault IsOutage : Status → Type 0) (ended : Status) (left : Option Report)
@@ -95,7 +95,8 @@ pub record EndingTells
   pub determined_unread : (s : Status) (report : Option Report) (text : List ℕ)
       → IsOwed command nothing s report text
       → IsAnswered command nothing s report text Writes ended left ⊎ IsOutage ended
-  -- where the words are no command, only a write that fails or being out of memory hides that
+  -- Status Words comes only of words that are no command.
+  -- Where they are none, only a write that fails or being out of memory hides that.
   pub words : ended ≡ status.Words → command ≡ None
   pub no_command : command ≡ None → (ended ≡ status.Words) ⊎ IsOutage ended
   -- a fault is that of the object that was handed in, and where it was
@@ -103,7 +104,8 @@ pub record EndingTells
   pub read_fault : ended ≡ status.ReadFault → ReadFails
   pub write_fault : ended ≡ status.WriteFault → WriteFails
   pub no_memory : ended ≡ status.NoMemory → Untouched
-  -- a command that reads no document is done, and of `sample` the six lines are written
+  -- A command that reads no document is done, unless it is out of memory or a write fails.
+  -- Of `sample` the six lines are written then.
   pub complete_unread : (c : Command) → command ≡ Some c
       → ReadsNothing (Some c) → (ended ≡ status.Done) ⊎ IsOutage ended
   pub sample : (seed : ℕ)

@@ -23,7 +23,7 @@ use Rattle.commands.specs.declared.words.DocumentCommand.TheVariants.{Elect, Rep
 use Rattle.commands.specs.declared.answer.Answer.{Answer}
 use Rattle.commands.specs.declared.status.Status.{Status}
 use Rattle.commands.specs.declared.status.Status.TheVariants as status
-use Rattle.commands.specs.Recorded.{AgreesIn, DiffersAt, differs_line, DocumentRecord, agreeing, differing, EntriesOutcome}
+use Rattle.commands.specs.Journals.{AgreesIn, DiffersAt, differs_line, DocumentRecord, agreeing, differing, EntriesOutcome}
 use Rattle.commands.specs.ElectLaws.{ElectEndsAsReplay, ElectionsAreWon, IsWonElection}
 use Rattle.commands.specs.Lines.{bad_start, refusal_line}
 use Rattle.commands.specs.Outcomes.{IsOutcome}

@@ -26,7 +26,7 @@ use Rattle.small_worlds.specs.Rows.{row_area, row_frame, node, bot_in_row}
 use Rattle.claim_core.specs.declared.report.Report.{Report}
 use Rattle.commands.specs.Reports.{report_text, DocumentLists, reported}
 use Rattle.commands.specs.Interleave.{IsScheduled}
-use Rattle.commands.specs.Recorded.{at_end, DocumentRecord, in_plain, agreeing, differing, JournalOutcome, differs_line}
+use Rattle.commands.specs.Journals.{at_end, DocumentRecord, in_plain, agreeing, differing, JournalOutcome, differs_line}
 use Rattle.commands.specs.WorkExamples.{nobody, one_alone}
 use Rattle.commands.proofs.Measures.{nobody_is_measured}
 use Rattle.small_worlds.proofs.Rows.{is_area, one_id, IsThereIn, one_has_ended, two_have_ended}

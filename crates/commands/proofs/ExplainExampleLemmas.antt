@@ -27,7 +27,7 @@ use Rattle.small_worlds.specs.Rows.{node, bot_in_row}
 use Rattle.shape_files.proofs.LeastVersionsLemmas.{later_is_document}
 use Rattle.election_law.specs.Elections.{IsErosion}
 use Rattle.commands.specs.WorkExamples.{nobody, one_alone}
-use Rattle.commands.specs.Recorded.{at_entry, DocumentRecord, in_full, agreeing, differing, JournalOutcome, in_plain, differs_line}
+use Rattle.commands.specs.Journals.{at_entry, DocumentRecord, in_full, agreeing, differing, JournalOutcome, in_plain, differs_line}
 use Rattle.commands.specs.declared.words.DocumentCommand.TheVariants.{Replay, Renew, Rewind, Rounds, Elect}
 use Rattle.commands.specs.Words.{is_number_word, number_of, of_two_words}
 use Rattle.commands.specs.declared.status.Status.TheVariants as status

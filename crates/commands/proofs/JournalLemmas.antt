@@ -28,7 +28,7 @@ use Rattle.commands.specs.Laws.{SameIfAny}
 use Rattle.commands.specs.Outcomes.{IsOutcome}
 use Rattle.commands.specs.Owed.{read_fault, longer, refused, served}
 use Rattle.commands.specs.Reads.{Read, whole}
-use Rattle.commands.specs.Recorded.{Agrees, DocumentRecord, EntriesOutcome, JournalAgrees, JournalOutcome, TellsEntries, agreeing, differing, differs_line, in_full, in_plain}
+use Rattle.commands.specs.Journals.{Agrees, DocumentRecord, EntriesOutcome, JournalAgrees, JournalOutcome, TellsEntries, agreeing, differing, differs_line, in_full, in_plain}
 use Rattle.commands.specs.RenewLaws.{EndsAsReplay, IsOwedFor}
 use Rattle.commands.specs.Replay.{agrees_line}
 use Rattle.commands.specs.ReportLaws.{ReplayIsDecided}

@@ -22,7 +22,7 @@ use Rattle.commands.specs.Headline.{IsRunOfDocument}
 use Rattle.commands.specs.Laws.{DocumentsHaveOutcomes, ReportsAreOfTurns, ReportsAreOfDocuments, ReportsAreOfSamples}
 use Rattle.commands.proofs.SampleLemmas.{told_by_sample}
 use Rattle.commands.proofs.OwedLemmas.{same_contents, not_both}
-use Rattle.commands.specs.Recorded.{agreeing, differing, DocumentRecord, EntriesOutcome, JournalOutcome, in_full, in_plain}
+use Rattle.commands.specs.Journals.{agreeing, differing, DocumentRecord, EntriesOutcome, JournalOutcome, in_full, in_plain}
 use Rattle.commands.specs.Rewind.{no_place, unwound, not_unwound, RewindOutcome}
 use Rattle.commands.specs.Elect.{no_erosion, not_ready, ElectOutcome, begun}
 use Rattle.commands.specs.Reports.{DocumentLists, reported, report_text}

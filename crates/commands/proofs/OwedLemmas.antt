@@ -48,7 +48,7 @@ use Rattle.commands.specs.Reads.{whole}
 use Rattle.commands.specs.Laws.{SameOwed, OwedIsOne}
 use Rattle.commands.proofs.CommandDocuments.{of_form}
 use Rattle.commands.proofs.SampleLemmas.{text_is_six_lines}
-use Rattle.commands.specs.Recorded.{differs_line, Agrees, DocumentRecord, JournalOutcome}
+use Rattle.commands.specs.Journals.{differs_line, Agrees, DocumentRecord, JournalOutcome}
 use Rattle.commands.specs.Rewind.{no_place, unwound, not_unwound, RewindOutcome}
 use Rattle.commands.specs.Texts.{written}
 use Rattle.commands.specs.declared.words.DocumentCommand.TheVariants.{Run, Interleave, Replay, Check, Measure, Renew, Rewind, Rounds, Elect, Tickets}

@@ -16,13 +16,13 @@ use Rattle.commands.specs.declared.answer.Task.TheVariants as task
 use Rattle.commands.specs.declared.status.Status.TheVariants as status
 use Rattle.commands.specs.Commands.{IsDocumentFaultOf, NeedsWorkers}
 use Rattle.commands.specs.Reads.{nothing}
-use Rattle.commands.specs.Recorded.{DocumentRecord}
+use Rattle.commands.specs.Journals.{DocumentRecord}
 use Rattle.commands.specs.Owed.{IsOwed, refused, served, shown}
 use Rattle.commands.specs.Answers.{IsTaskOf, IsAnswerOf, with_text, IsTaskTo}
 use Rattle.commands.specs.Show.{show_text}
 use Rattle.commands.specs.Lines.{refusal_line}
 use Rattle.commands.specs.declared.recorded.Recorded.{Recorded}
-use Rattle.commands.specs.Journals.{IsRecordOf}
+use Rattle.commands.specs.Recorded.{IsRecordOf}
 use Rattle.commands.specs.declared.status.Status.{Status}
 use Rattle.commands.specs.Outcomes.{IsOutcome}
 use Rattle.std.proofs.lemmas.Result.{IfOk-weaker}

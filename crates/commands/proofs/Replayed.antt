@@ -39,7 +39,7 @@ use Rattle.commands.proofs.DocumentWorlds.{drawn, may, start_walls}
 use Rattle.commands.proofs.Entries.{IsNumbered, listed_numbered, all_keep_limits}
 use Rattle.commands.proofs.MarkLemmas.{few_callers, marks_writable}
 use Rattle.commands.proofs.Interleaved.{interleaves_are_runs}
-use Rattle.commands.specs.Recorded.{TellsEntries}
+use Rattle.commands.specs.Journals.{TellsEntries}
 use Rattle.commands.proofs.JournalLemmas.{replay_agrees}
 use Rattle.commands.proofs.Outcomes.{makes_turns}
 use Rattle.commands.specs.declared.status.Status.TheVariants.{Done}

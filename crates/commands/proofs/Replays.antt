@@ -8,7 +8,7 @@ use Rattle.amoebot_state.specs.Zones.{Shown}
 use Rattle.serial_model.specs.Forms.{IsForm}
 use Rattle.serial_model.specs.Laws.{FirstNoStepIsUnique, RunHasOnlySteps, RunOrFirstNoStep, PlainRunIsUnique}
 use Rattle.serial_model.specs.Replays.{IsFirstNoStep, RunIn}
-use Rattle.commands.specs.Recorded.{AgreesIn, DiffersAt, at_entry, at_end}
+use Rattle.commands.specs.Journals.{AgreesIn, DiffersAt, at_entry, at_end}
 use Rattle.commands.specs.ReportLaws.{ReplayIsDecided}
 use Rattle.commands.proofs.SameConfigs.{configs_equal}
 use Rattle.commands.proofs.ToldEntries.{plain_alike}

@@ -10,7 +10,7 @@ use Rattle.serial_model.specs.Forms.{IsForm}
 use Rattle.serial_model.specs.Laws.{PlainRunIsUnique}
 use Rattle.round_meter.specs.Rounds.{IsRounded}
 use Rattle.round_meter.specs.Laws.{EachRunIsRounded, RoundsAreUnique}
-use Rattle.commands.specs.Recorded.{AgreesIn}
+use Rattle.commands.specs.Journals.{AgreesIn}
 use Rattle.commands.specs.Rounds.{CountedIn}
 use Rattle.commands.specs.ReportLaws.{RoundsAreDecided}
 use Rattle.commands.proofs.ToldEntries.{plain_alike}

@@ -12,7 +12,7 @@ use Rattle.serial_model.specs.Forms.{full_entry}
 use Rattle.serial_model.proofs.Runs.{full_is_itself}
 use Rattle.claim_core.specs.declared.report.Report.{Report}
 use Rattle.claim_core.specs.Turns.{CallerLists}
-use Rattle.commands.specs.Recorded.{Agrees, DiffersAt}
+use Rattle.commands.specs.Journals.{Agrees, DiffersAt}
 use Rattle.commands.specs.Sample.{IsSampleText, sample_text}
 use Rattle.commands.specs.ReportLaws.{ReplayIsDecided, SampleTextIsOne}
 

@@ -57,7 +57,7 @@ use Rattle.commands.specs.Reads.{nothing, whole}
 use Rattle.commands.specs.Laws.{OwedIsSome, SomethingOwed}
 use Rattle.commands.proofs.CommandDocuments.{of_form}
 use Rattle.commands.proofs.OwedTexts.{are_there}
-use Rattle.commands.specs.Recorded.{differs_line, DocumentRecord, agreeing, differing, Agrees, EntriesOutcome, JournalOutcome, in_full, in_plain}
+use Rattle.commands.specs.Journals.{differs_line, DocumentRecord, agreeing, differing, Agrees, EntriesOutcome, JournalOutcome, in_full, in_plain}
 use Rattle.commands.specs.Rewind.{no_place, unwound, not_unwound}
 use Rattle.commands.specs.Texts.{written}
 use Rattle.commands.specs.Show.{show_text}

@@ -9,7 +9,7 @@ use Rattle.shape_files.specs.Documents.{Contents}
 use Rattle.shape_files.specs.LeastVersions.{DecidedFromEach}
 use Rattle.run_sample.specs.Laws.{SampleIsUnique}
 use Rattle.commands.specs.ReportLaws.{SampleTextIsOne}
-use Rattle.commands.specs.Recorded.{differs_line, agreeing, differing, DocumentRecord, EntriesOutcome, JournalOutcome, in_full, in_plain}
+use Rattle.commands.specs.Journals.{differs_line, agreeing, differing, DocumentRecord, EntriesOutcome, JournalOutcome, in_full, in_plain}
 use Rattle.commands.specs.declared.words.Command.{Command}
 use Rattle.commands.specs.declared.words.Command.TheVariants.{Document}
 use Rattle.commands.specs.declared.words.DocumentCommand.{DocumentCommand}

@@ -15,7 +15,7 @@ use Rattle.serial_model.specs.Replays.{IsNoStep, RunIn}
 use Rattle.round_meter.specs.Rounds.{IsRounded}
 use Rattle.round_meter.specs.Meters.{Metered, IsMetered, GoesOnIn, waiting_of}
 use Rattle.round_meter.specs.Laws.{MeterTellsRounds}
-use Rattle.commands.specs.Recorded.{DiffersAt, at_entry}
+use Rattle.commands.specs.Journals.{DiffersAt, at_entry}
 use Rattle.commands.specs.Rounds.{CountedIn}
 
 -- what is told in one form alike is alike without old values

@@ -1,5 +1,5 @@
 -- The words of the commands.
-use Rattle.std.proofs.Common.{◌≡◌, ◌⊎◌, inl, inr, ℕ, List, [], ◌∷◌, Bool, true, false, Option, Some, None, codes, refl, ap, sym, subst, ◌∙◌}
+use Rattle.std.proofs.Common.{◌≡◌, ◌⊎◌, inl, inr, ℕ, List, [], ◌∷◌, Bool, true, false, Option, Some, None, codes, refl, ap, sym, subst, ◌∙◌, ◌<◌, length, drop, suc, get_or, drop-cons}
 use Rattle.std.specs.Prelude.{if◌then◌else◌, option_and_then}
 use Rattle.std.specs.Option.{option_map}
 use Rattle.std.specs.List.{list_all}
@@ -45,6 +45,13 @@ document_named (d ∷ cs) ones word c e =
       | inl by ↦ let one : Document d ≡ c = cc in subst (λ k. AreWordsOf k (word ∷ [])) one (subst (λ w. AreWordsOf (Document d) (w ∷ [])) (same_word (word_of d) word by.0) (AreWordsOf.document d parts.0))
       | inr by ↦ document_named cs parts.1 word c by.1
     ]
+
+-- a command with another word is passed over
+pub passed_over : (cs : List DocumentCommand) (i j : ℕ) (d : DocumentCommand) (word : List ℕ) → j ≡ suc i → i < length cs → bytes_eq (word_of (get_or cs i d)) word ≡ false → document_in (drop i cs) word ≡ document_in (drop j cs) word
+passed_over cs i j d word next below other =
+    ap (λ (ds : List DocumentCommand). document_in ds word) (drop-cons cs i d below)
+    ∙ ap (λ (b : Bool). if b then Some (Document (get_or cs i d)) else document_in (drop (suc i) cs) word) other
+    ∙ ap (λ (n : ℕ). document_in (drop n cs) word) (sym next)
 
 show_named : (programs : List Shipped) (name : List ℕ) (c : Command) → show_in programs name ≡ Some c → AreWordsOf c (codes "show" ∷ name ∷ [])
 show_named [] name c e = absurd (cc)

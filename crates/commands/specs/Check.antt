@@ -14,7 +14,7 @@ use Rattle.commands.specs.Texts.{TextOutcome}
 abbrev pub check_text : ℕ → Program → List ℕ
 check_text version p = line_text (codes "amoebot" ∷ decimal version ∷ []) ++ canon p
 
--- it is that of the document's program, in the document's version
+-- the text is that of the document's program, in the document's version
 abbrev pub CheckOutcome : Contents → Status → Option Report → List ℕ → Type 0
 CheckOutcome a =
     TextOutcome (λ (text : List ℕ). (p : Program) × (a.checked ≡ Some p) × (text ≡ check_text a.version p))

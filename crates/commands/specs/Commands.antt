@@ -51,7 +51,7 @@ many_mebibytes = 134217728
 abbrev pub with_old_values : ℕ
 with_old_values = 3
 
--- a row of a command of one word, whose document may be of each version
+-- a row of a command whose word stands alone, and whose document may have any version
 abbrev one_word_row : List ℕ → Form → ℕ → TurnMaker → CommandRow
 one_word_row word form limit maker =
     record { word = word; alone = true; form = form; least = least_version; limit = limit; maker = maker }
@@ -86,7 +86,7 @@ least_for c = (row_of c).least
 abbrev pub IsDocumentOf : DocumentCommand → List ℕ → Contents → Type 0
 IsDocumentOf c bytes a = HasContentsFrom (least_for c) (form_of c) bytes a
 
--- they are none, and this is their first fault
+-- the bytes are no document of the command, and this is their first fault
 abbrev pub IsDocumentFaultOf : DocumentCommand → List ℕ → Refusal → Type 0
 IsDocumentFaultOf c bytes r = IsDocumentFaultFrom (least_for c) (form_of c) bytes r
 

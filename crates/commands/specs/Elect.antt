@@ -12,7 +12,7 @@ use Rattle.election_law.specs.Elections.{IsErosion, IsReadyStart, cand_var, lead
 use Rattle.commands.specs.declared.status.Status.{Status}
 use Rattle.commands.specs.declared.status.Status.TheVariants as status
 use Rattle.commands.specs.Lines.{refusal_line, not_erosion, bad_start}
-use Rattle.commands.specs.Recorded.{DocumentRecord, JournalOutcome}
+use Rattle.commands.specs.Journals.{DocumentRecord, JournalOutcome}
 
 -- the id of the leader, if there is one
 abbrev pub leader_word : Option ℕ → List ℕ
@@ -29,8 +29,8 @@ abbrev pub elected_text : Config → List ℕ
 elected_text world = election_text (value_count world cand_var 1) (leader_of world)
 
 -- The program is another than `erosion`. Or it may not start from the shape.
--- Or the journal agrees, and the candidates and the leader of its last world are told;
--- or it differs.
+-- Or the journal agrees, and the text tells the candidates and the leader of its last world.
+-- Or the journal differs.
 pub data ElectOutcome (a : Contents) : Status → Option Report → List ℕ → Type 0 where
   no_erosion : (d : DocumentRecord a)
       → ¬ IsErosion d.program

@@ -11,7 +11,7 @@ use Rattle.commands.specs.Elect.{election_text}
 use Rattle.commands.specs.declared.words.DocumentCommand.TheVariants.{Elect}
 use Rattle.commands.specs.declared.status.Status.TheVariants as status
 use Rattle.commands.specs.Commands.{IsDocumentOf}
-use Rattle.commands.specs.Recorded.{DocumentRecord, JournalAgrees}
+use Rattle.commands.specs.Journals.{DocumentRecord, JournalAgrees}
 use Rattle.commands.specs.Reads.{whole}
 use Rattle.commands.specs.RenewLaws.{EndsAsReplay, IsOwedFor}
 

@@ -36,7 +36,7 @@ pub record IsInterleaveReport (f : Shown → Verdict) (start : Config) (lists : 
   pub reached : Reached (setup f start lists) report
   pub scheduled : IsScheduled (setup f start lists) schedule report
 
--- the report is that of the document's lists and its schedule
+-- the report is the one that the document's schedule gives for its lists
 abbrev pub InterleaveOutcome : Contents → Status → Option Report → List ℕ → Type 0
 InterleaveOutcome a =
     ReportOutcome a (λ (d : DocumentLists a) (report : Report). (schedule : List ℕ)

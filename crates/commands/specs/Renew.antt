@@ -12,7 +12,7 @@ use Rattle.journal_text.specs.Texts.{journal_text}
 use Rattle.shape_text.specs.Texts.{shape_text}
 use Rattle.shape_files.specs.Documents.{Contents}
 use Rattle.commands.specs.declared.status.Status.{Status}
-use Rattle.commands.specs.Recorded.{DocumentRecord, JournalOutcome}
+use Rattle.commands.specs.Journals.{DocumentRecord, JournalOutcome}
 
 -- a document of version 3, with the program in its canonical form, the shape,
 -- the entries with their old values, and the last shape

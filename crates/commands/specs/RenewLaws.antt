@@ -12,7 +12,7 @@ use Rattle.commands.specs.declared.words.DocumentCommand.TheVariants.{Replay, Re
 use Rattle.commands.specs.declared.status.Status.{Status}
 use Rattle.commands.specs.declared.status.Status.TheVariants as status
 use Rattle.commands.specs.Commands.{limit_for}
-use Rattle.commands.specs.Recorded.{TellsEntries}
+use Rattle.commands.specs.Journals.{TellsEntries}
 use Rattle.commands.specs.Owed.{IsOwed}
 use Rattle.commands.specs.Reads.{Read, whole}
 

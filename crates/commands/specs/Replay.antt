@@ -7,13 +7,13 @@ use Rattle.amoebot_state.specs.declared.verdict.Entry.{Entry}
 use Rattle.claim_core.specs.declared.report.Report.{Report}
 use Rattle.shape_files.specs.Documents.{Contents}
 use Rattle.commands.specs.declared.status.Status.{Status}
-use Rattle.commands.specs.Recorded.{DocumentRecord, JournalOutcome}
+use Rattle.commands.specs.Journals.{DocumentRecord, JournalOutcome}
 
 -- the line of a journal that agrees, of so many entries
 abbrev pub agrees_line : ℕ → List ℕ
 agrees_line count = line_text (codes "agrees" ∷ decimal count ∷ [])
 
--- the journal agrees, and the line has the number of its entries; or it differs
+-- The journal agrees, and the line has the number of its entries. Or the journal differs.
 abbrev pub ReplayOutcome : Contents → Status → Option Report → List ℕ → Type 0
 ReplayOutcome a s report text =
     (d : DocumentRecord a)

@@ -24,7 +24,7 @@ use Rattle.action_meaning.specs.Verdicts.{verdict_on, verdict_shown}
 use Rattle.commands.specs.Reports.{report_text}
 use Rattle.commands.specs.Run.{IsRunReport}
 use Rattle.commands.specs.Interleave.{IsScheduled, IsInterleaveReport}
-use Rattle.commands.specs.Recorded.{AgreesIn, DiffersAt}
+use Rattle.commands.specs.Journals.{AgreesIn, DiffersAt}
 use Rattle.commands.specs.Rounds.{CountedIn}
 use Rattle.commands.specs.Measure.{IsMeasureText}
 use Rattle.commands.specs.Sample.{IsSampleText}

@@ -13,7 +13,7 @@ use Rattle.shape_files.specs.Documents.{Contents}
 use Rattle.commands.specs.declared.status.Status.{Status}
 use Rattle.commands.specs.declared.status.Status.TheVariants as status
 use Rattle.commands.specs.Lines.{refusal_line, no_such_place}
-use Rattle.commands.specs.Recorded.{DocumentRecord, differs_line}
+use Rattle.commands.specs.Journals.{DocumentRecord, differs_line}
 
 -- The journal has no such place. Or the way back leads to a shape, which is told.
 -- Or no way leads back to the place, and this is where it ends.

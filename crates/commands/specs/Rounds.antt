@@ -13,7 +13,7 @@ use Rattle.round_meter.specs.Rounds.{IsRounded}
 use Rattle.action_meaning.specs.Verdicts.{verdict_shown}
 use Rattle.shape_files.specs.Documents.{Contents}
 use Rattle.commands.specs.declared.status.Status.{Status}
-use Rattle.commands.specs.Recorded.{Agrees, DocumentRecord, JournalOutcome}
+use Rattle.commands.specs.Journals.{Agrees, DocumentRecord, JournalOutcome}
 
 -- the entries are a run from the start to the final shape, so many rounds of it have ended,
 -- and so many amoebots wait
@@ -40,7 +40,7 @@ pub record IsRoundsText (f : Shown → Verdict) (start : Config)
   pub counted : IsRounded f start entries rounds waiting
   pub whole : text ≡ rounds_text rounds waiting
 
--- the journal agrees, and its rounds are told; or it differs
+-- The journal agrees, and the text tells its rounds. Or the journal differs.
 abbrev pub RoundsOutcome : Contents → Status → Option Report → List ℕ → Type 0
 RoundsOutcome a s report text =
     (d : DocumentRecord a) × JournalOutcome a d (IsRoundsText (verdict_shown d.program) d.start) s report text

@@ -6,6 +6,6 @@ use Rattle.claim_core.specs.declared.report.Report.{Report}
 use Rattle.commands.specs.declared.status.Status.{Status}
 use Rattle.commands.specs.declared.status.Status.TheVariants as status
 
--- the command is done with such a text, and with no report
+-- the command is done with a text of which this holds, and with no report
 pub data TextOutcome (IsText : List ℕ → Type 0) : Status → Option Report → List ℕ → Type 0 where
   written : (text : List ℕ) → IsText text → TextOutcome IsText status.Done None text

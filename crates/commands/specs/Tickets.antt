@@ -9,7 +9,8 @@ use Rattle.commands.specs.declared.status.Status.{Status}
 use Rattle.commands.specs.Reports.{DocumentLists, ReportOutcome}
 use Rattle.commands.specs.Run.{IsRunReport}
 
--- the report is one of a run of the document's lists, which such steps give
+-- the report is one of a run of the document's lists, which steps of callers give
+-- whose commits draw their places
 abbrev pub TicketsOutcome : Contents → Status → Option Report → List ℕ → Type 0
 TicketsOutcome a =
     ReportOutcome a (λ (d : DocumentLists a) (report : Report).

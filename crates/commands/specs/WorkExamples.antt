@@ -27,7 +27,7 @@ use Rattle.commands.specs.Replay.{agrees_line}
 use Rattle.commands.specs.Measure.{IsMeasureText}
 use Rattle.commands.specs.Rounds.{AgreesInRounds, CountedIn, rounds_text}
 use Rattle.commands.specs.Sample.{IsSampleText}
-use Rattle.commands.specs.Recorded.{Agrees, AgreesIn, DiffersAt, differs_line}
+use Rattle.commands.specs.Journals.{Agrees, AgreesIn, DiffersAt, differs_line}
 
 -- the shape at the start, and the one in which the second amoebot has expanded
 abbrev pub start : Config

@@ -3,7 +3,7 @@
 ghost use Rattle.std.specs.Prelude.{◌≡◌, IfOk, None};
 ghost use Rattle.commands.specs.Answers.{with_text};
 ghost use Rattle.commands.specs.Lines.{refusal_line};
-ghost use Rattle.commands.specs.Recorded.{differs_line};
+ghost use Rattle.commands.specs.Journals.{differs_line};
 ghost use Rattle.commands.specs.Replay.{agrees_line};
 
 use crate::replay::{print_agrees, print_differs};

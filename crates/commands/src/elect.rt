@@ -8,7 +8,7 @@ ghost use Rattle.action_meaning.specs.Verdicts.{verdict_shown};
 ghost use Rattle.election_law.specs.Elections.{cand_var, leader_of};
 ghost use Rattle.shape_files.specs.Fitting.{Fits};
 ghost use Rattle.shape_files.specs.Views.{contents};
-ghost use Rattle.commands.specs.Recorded.{AgreesIn, DiffersAt, EntriesOutcome, differs_line};
+ghost use Rattle.commands.specs.Journals.{AgreesIn, DiffersAt, EntriesOutcome, differs_line};
 ghost use Rattle.commands.specs.Commands.{form_of};
 ghost use Rattle.commands.specs.Lines.{bad_start, refusal_line};
 ghost use Rattle.text_tokens.specs.Lines.{line_text};

@@ -4,7 +4,7 @@ ghost use Rattle.std.specs.Prelude.{◌≡◌, length};
 ghost use Rattle.shape_files.specs.Fitting.{Fits};
 ghost use Rattle.shape_files.specs.Views.{contents};
 ghost use Rattle.commands.specs.Commands.{form_of};
-ghost use Rattle.commands.specs.Journals.{HasItsJournal, IsOfBots, full_of, IsRecordOf};
+ghost use Rattle.commands.specs.Recorded.{HasItsJournal, IsOfBots, full_of, IsRecordOf};
 
 use crate::words::DocumentCommand;
 use action_eval::Runner;

@@ -7,7 +7,7 @@ ghost use Rattle.serial_model.specs.Forms.{full_entry};
 ghost use Rattle.serial_model.specs.Replays.{AreCountable};
 ghost use Rattle.shape_files.specs.Fitting.{Fits};
 ghost use Rattle.shape_files.specs.Views.{contents};
-ghost use Rattle.commands.specs.Recorded.{Agrees, DiffersAt, EntriesOutcome};
+ghost use Rattle.commands.specs.Journals.{Agrees, DiffersAt, EntriesOutcome};
 ghost use Rattle.commands.specs.Commands.{form_of};
 ghost use Rattle.amoebot_state.specs.Limits.{most_vars};
 ghost use Rattle.commands.specs.Renew.{renewed_text, RenewOutcome};

@@ -5,7 +5,7 @@ ghost use Rattle.std.specs.List.{All};
 ghost use Rattle.serial_model.specs.Replays.{AreCountable};
 ghost use Rattle.shape_files.specs.Fitting.{Fits};
 ghost use Rattle.shape_files.specs.Views.{contents};
-ghost use Rattle.commands.specs.Recorded.{AgreesIn, DiffersAt, differs_line, EntriesOutcome};
+ghost use Rattle.commands.specs.Journals.{AgreesIn, DiffersAt, differs_line, EntriesOutcome};
 ghost use Rattle.commands.specs.Commands.{form_of};
 ghost use Rattle.commands.specs.Replay.{agrees_line, ReplayOutcome};
 ghost use Rattle.commands.specs.ReportLaws.{ReplayIsDecided};

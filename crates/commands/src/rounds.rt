@@ -5,7 +5,7 @@ ghost use Rattle.std.specs.List.{All};
 ghost use Rattle.serial_model.specs.Replays.{AreCountable};
 ghost use Rattle.shape_files.specs.Fitting.{Fits};
 ghost use Rattle.shape_files.specs.Views.{contents};
-ghost use Rattle.commands.specs.Recorded.{DiffersAt, EntriesOutcome};
+ghost use Rattle.commands.specs.Journals.{DiffersAt, EntriesOutcome};
 ghost use Rattle.commands.specs.Commands.{form_of};
 ghost use Rattle.commands.specs.Rounds.{CountedIn, rounds_text, RoundsOutcome, IsRoundsText};
 ghost use Rattle.commands.specs.ReportLaws.{RoundsAreDecided};

@@ -8,7 +8,7 @@ ghost use Rattle.claim_core.specs.Good.{Good};
 ghost use Rattle.action_meaning.specs.Verdicts.{verdict_shown};
 ghost use Rattle.std.specs.List.{All};
 ghost use Rattle.serial_model.specs.Replays.{AreCountable};
-ghost use Rattle.commands.specs.Recorded.{Agrees};
+ghost use Rattle.commands.specs.Journals.{Agrees};
 ghost use Rattle.commands.specs.Sample.{IsSampleText, sample_text};
 ghost use Rattle.commands.specs.ReportLaws.{SampleTextIsOne};
 

@@ -10,6 +10,7 @@ ghost use Rattle.clap.specs.Words.{first_of, found_of, kind_of, rows_of, subcomm
 ghost use Rattle.commands.specs.WordLaws.{CommandIsItsWords, SmallWords};
 
 use crate::syntax::words_syntax;
+use crate::table::{DOCUMENTS, row_of};
 use amoebot_state::NoMemory;
 use clap::error::ErrorKind;
 use clap::{ArgMatches, Error};
@@ -142,19 +143,12 @@ fn rewind_to(place: u32) -> Command
 fn of_word(word: &str) -> Option<Command>
     ensures { result ≡ document_in documents word.now }
 {
-    let command = match word {
-        "run" => DocumentCommand::Run,
-        "interleave" => DocumentCommand::Interleave,
-        "replay" => DocumentCommand::Replay,
-        "check" => DocumentCommand::Check,
-        "measure" => DocumentCommand::Measure,
-        "renew" => DocumentCommand::Renew,
-        "rounds" => DocumentCommand::Rounds,
-        "elect" => DocumentCommand::Elect,
-        "tickets" => DocumentCommand::Tickets,
-        _ => return None,
-    };
-    Some(Command::Document(command))
+    for command in DOCUMENTS {
+        if row_of(command).word == word {
+            return Some(Command::Document(command));
+        }
+    }
+    None
 }
 
 fn of_name(name: &str) -> Option<Command>

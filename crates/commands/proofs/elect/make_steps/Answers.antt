@@ -4,7 +4,7 @@ use Rattle.amoebot_state.proofs.Options.{err_told}
 use Rattle.serial_model.specs.Replays.{IsNoStep, StepIn}
 use Rattle.action_tree.specs.Trees.{Program}
 use Rattle.action_meaning.specs.Verdicts.{verdict_shown}
-use Rattle.commands.specs.Recorded.{DiffersAt, at_end}
+use Rattle.commands.specs.Journals.{DiffersAt, at_end}
 use Rattle.commands.proofs.ToldEntries.{told_all}
 use Rattle.commands.proofs.ElectSteps.{made_more, stops_at}
 use Rattle.commands.proofs.elect.make_steps.Goals as goal

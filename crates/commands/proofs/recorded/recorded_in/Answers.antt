@@ -1,6 +1,6 @@
 use Rattle.std.proofs.Common.{◌≡◌, Some, ap, length, sym, subst, ◌∙◌}
 use Rattle.shape_files.specs.Views.{contents}
-use Rattle.commands.specs.Journals.{HasItsJournal, IsOfBots, full_of}
+use Rattle.commands.specs.Recorded.{HasItsJournal, IsOfBots, full_of}
 use Rattle.commands.proofs.RecordedLemmas.{full_there, plain_there}
 use Rattle.commands.proofs.recorded.recorded_in.Goals.{in-Some+in-Some-1, in-Some+in-None-1, in-None}
 use Rattle.commands.proofs.recorded.recorded_in.Goals as goal

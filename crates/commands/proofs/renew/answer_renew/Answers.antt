@@ -1,6 +1,6 @@
 use Rattle.std.proofs.Common.{◌≡◌, Some, ap, sym, subst, ◌∙◌}
 use Rattle.shape_files.specs.Views.{contents}
-use Rattle.commands.specs.Journals.{HasItsJournal}
+use Rattle.commands.specs.Recorded.{HasItsJournal}
 use Rattle.commands.proofs.OwedTexts.{record_of}
 use Rattle.commands.proofs.renew.answer_renew.Goals as goal
 use Rattle.commands.proofs.JournalLemmas.{IsRenewedText, of_full, of_plain}

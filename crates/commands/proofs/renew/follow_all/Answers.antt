@@ -4,7 +4,7 @@ use Rattle.std.proofs.Math.Seq.{take-length}
 use Rattle.amoebot_state.specs.Steps.{Run}
 use Rattle.amoebot_state.proofs.Runs.{run_push}
 use Rattle.serial_model.specs.Replays.{RunIn}
-use Rattle.commands.specs.Recorded.{at_end}
+use Rattle.commands.specs.Journals.{at_end}
 use Rattle.commands.proofs.ToldEntries.{told_more, stops}
 use Rattle.commands.proofs.renew.follow_all.Goals as goal
 

@@ -4,7 +4,7 @@ use Rattle.action_eval.proofs.SharedRunner.{runner_sync}
 use Rattle.action_meaning.specs.Verdicts.{verdict_shown}
 use Rattle.serial_model.specs.Forms.{full_entry}
 use Rattle.serial_model.proofs.Runs.{full_entries, full_is_itself}
-use Rattle.commands.specs.Recorded.{AgreesIn, DiffersAt, agreeing, differing, EntriesOutcome}
+use Rattle.commands.specs.Journals.{AgreesIn, DiffersAt, agreeing, differing, EntriesOutcome}
 use Rattle.commands.proofs.renew.renew_full.Goals as goal
 use Rattle.commands.proofs.OwedTexts.{ok_answers}
 use Rattle.commands.specs.Renew.{renewed_text}

@@ -4,7 +4,7 @@ use Rattle.amoebot_state.specs.Configs.{Config}
 use Rattle.amoebot_state.specs.Steps.{plain_entry}
 use Rattle.action_eval.proofs.SharedRunner.{runner_sync}
 use Rattle.action_meaning.specs.Verdicts.{verdict_shown}
-use Rattle.commands.specs.Recorded.{Agrees, DiffersAt, agreeing, differing, EntriesOutcome}
+use Rattle.commands.specs.Journals.{Agrees, DiffersAt, agreeing, differing, EntriesOutcome}
 use Rattle.commands.proofs.renew.renew_plain.Goals as goal
 use Rattle.commands.proofs.OwedTexts.{ok_answers}
 use Rattle.commands.specs.Renew.{renewed_text}

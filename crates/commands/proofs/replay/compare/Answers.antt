@@ -1,7 +1,7 @@
 use Rattle.std.proofs.Common.{sym, ◌∙◌}
 use Rattle.std.proofs.lemmas.Bool.{false≢true}
 use Rattle.std.proofs.lemmas.Result.{err_from_is_err_and}
-use Rattle.commands.specs.Recorded.{at_entry, at_end}
+use Rattle.commands.specs.Journals.{at_entry, at_end}
 use Rattle.commands.proofs.replay.compare.Goals as goal
 
 pub returns-in_err-reached-clause-differs : goal.returns-in_err-reached-clause-differs

@@ -1,7 +1,7 @@
 use Rattle.std.proofs.Common.{ap, sym, length, ◌∙◌}
 use Rattle.std.proofs.lemmas.List.{length-map}
 use Rattle.action_eval.proofs.SharedRunner.{runner_sync}
-use Rattle.commands.specs.Recorded.{EntriesOutcome, agreeing, differing}
+use Rattle.commands.specs.Journals.{EntriesOutcome, agreeing, differing}
 use Rattle.commands.specs.Replay.{agrees_line}
 use Rattle.commands.proofs.OwedTexts.{ok_answers}
 use Rattle.commands.proofs.JournalLemmas.{IsAgreesLine}

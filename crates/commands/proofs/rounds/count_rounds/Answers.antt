@@ -2,7 +2,7 @@ use Rattle.std.proofs.Common.{◌≡◌, length, arith, sym, ◌∙◌, subst}
 use Rattle.std.proofs.lemmas.Bool.{false≢true}
 use Rattle.serial_model.specs.Replays.{IsNoStep}
 use Rattle.round_meter.specs.Meters.{GoesOnIn}
-use Rattle.commands.specs.Recorded.{at_end}
+use Rattle.commands.specs.Journals.{at_end}
 use Rattle.commands.proofs.ToldEntries.{fed_all, fed_more, stops_there, told_all}
 use Rattle.commands.proofs.rounds.count_rounds.Goals as goal
 

@@ -1,6 +1,6 @@
 use Rattle.action_eval.proofs.SharedRunner.{runner_sync}
 use Rattle.commands.proofs.rounds.tell_count.Goals as goal
-use Rattle.commands.specs.Recorded.{agreeing, differing, EntriesOutcome}
+use Rattle.commands.specs.Journals.{agreeing, differing, EntriesOutcome}
 use Rattle.commands.proofs.OwedTexts.{answers, ok_answers}
 use Rattle.commands.specs.Rounds.{IsRoundsText}
 use Rattle.action_meaning.specs.Verdicts.{verdict_shown}
