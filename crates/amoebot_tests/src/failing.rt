@@ -1,6 +1,6 @@
 //! Reads and writes that fail: each one of a call in turn, and what stands then.
 
-use crate::commands::{COMPARED_AND_CHECKED, INTERLEAVINGS, MEASURED, SHOWN};
+use crate::rows::{COMPARED_AND_CHECKED, INTERLEAVINGS, MEASURED, SHOWN};
 use crate::tests::{call, has_nothing, says};
 use amoebot_run::{Ended, Status};
 use outer_io::{Failed, MemSink, MemSource, Source, SureSink, SureSource};

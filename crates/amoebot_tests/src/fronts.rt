@@ -7,7 +7,7 @@
 //! is a name where a name may stand.
 //! Else that token is at fault.
 
-use crate::commands::{COMPARED_AND_CHECKED, INTERLEAVINGS, MEASURED, SHOWN};
+use crate::rows::{COMPARED_AND_CHECKED, INTERLEAVINGS, MEASURED, SHOWN};
 use amoebot_run::Status;
 use shared_tests::calls::check;
 use shared_tests::journals::{COUNTED, ELECTIONS, RENEWED, REWOUND, TO_START};

@@ -1,8 +1,8 @@
 ghost use Rattle.std.specs.declared.option.Option.{Option};
 
-use crate::commands::{COMPARED_AND_CHECKED, INTERLEAVINGS, MEASURED, NO_COMMANDS, SHOWN};
 use crate::failing::{is_unread, unread};
 use crate::faults::FAULTS;
+use crate::rows::{COMPARED_AND_CHECKED, INTERLEAVINGS, MEASURED, NO_COMMANDS, SHOWN};
 use crate::runs::{RUNS, WHOLE_PROGRAMS};
 use activation::NoGate;
 use amoebot_run::{Ended, Status, run};
