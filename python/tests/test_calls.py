@@ -1,5 +1,7 @@
 """Calls of the program, and how they may end."""
 
+import contextlib
+import io
 import json
 import os
 import pathlib
@@ -14,6 +16,7 @@ from unittest import mock
 import pogyawin
 from common import LIGHT, TOP, example, program
 from pogyawin import Differs, Document, Lists, Refused, Shape, call, read, run
+from pogyawin.__main__ import main
 
 
 class Calls(unittest.TestCase):
@@ -102,7 +105,7 @@ class Docstrings(unittest.TestCase):
 
     def test_examples(self):
         ring = pogyawin.Document.parse(example("elect_ring"))
-        names = {**vars(pogyawin), "json": json, "os": os, "replace": replace, "LIGHT": LIGHT, "RING": ring}
+        names = {**vars(pogyawin), "json": json, "os": os, "replace": replace, "LIGHT": LIGHT, "RING": ring, "main": main}
         for module in (pogyawin.status, pogyawin.tokens):
             names.update(vars(module))
         tried = 0
@@ -112,11 +115,13 @@ class Docstrings(unittest.TestCase):
                 self.assertTrue(examples, f"{name} has no example")
                 for each in examples:
                     tried += 1
-                    self.assertTrue(eval(each, dict(names)), each)
+                    with contextlib.redirect_stdout(io.StringIO()):
+                        self.assertTrue(eval(each, dict(names)), each)
         self.assertGreater(tried, 70)
 
     def public(self):
         """The public names of the package, and the public methods of its classes that say what they do."""
+        yield "main", main
         internal = {"Tokens": None}
         for name in pogyawin.__all__:
             value = getattr(pogyawin, name)
