@@ -87,8 +87,8 @@ TurnOk f first lists entries marks caller turn (mark.Busy cell by_caller by_turn
     HasInZone f first entries place (bot_of_turn lists caller turn) cell
     × MayHold f first lists entries marks caller cell by_caller by_turn by_bot
 
--- Of how many turns of a caller there are marks, beside how many turns its list has.
--- That is of all of them, or of the first ones, which the caller made so far.
+-- Two relations between the number of a caller's marks and the number of its list's turns.
+-- After the run each turn has a mark; before its end only the first turns have one.
 abbrev pub AllTurns : ℕ → ℕ → Type 0
 AllTurns marked turns = marked ≡ turns
 

@@ -45,7 +45,7 @@ ReachedIsGood = (g : Setup) → IsSetup g → (report : Report)
 
 -- a state has at most one report: two of them have one world,
 -- journals of one first world and the same entries, and the same marks.
--- So they are one, but for the room in their journals
+-- So they are one, except for the room in their journals
 abbrev pub StateHasOneReport : Type 0
 StateHasOneReport =
     (g : Setup) (s : State) (one two : Report)

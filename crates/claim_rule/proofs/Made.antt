@@ -33,7 +33,7 @@ use Rattle.claim_rule.specs.Manners.{CommitWay, by_journal, by_ticket, next_by, 
 use Rattle.claim_rule.specs.Stands.{HasRecord, Stands, KeepsRule, journal_slot}
 use Rattle.claim_rule.specs.Plays.{IsToTry, IsToFree, IsToRead, Claims, Releases, ReadsLength, tried, marked_at, released_caller}
 use Rattle.claim_rule.specs.Plays.{IsToTryNode, IsToWin, IsToFreeNode, LooksAt, TriesNode, ReleasesNode, StopsAt, NotesWord, note_of, with_node, refused_at, but_first}
-use Rattle.claim_rule.specs.Commits.{Takes, IsToCommit, with_commit, with_journal, took, stored, drew}
+use Rattle.claim_rule.specs.Commits.{Takes, IsToCommit, with_commit, with_journal, TriesJournal, stored, drew}
 use Rattle.claim_rule.specs.Nexts.{IsAt, IsEachStep, ClaimIsNext, ReleaseIsNext, NodeLookIsNext, NodeClaimIsNext, NodeReleaseIsNext, LookIsNext, TakeIsNext, CommitIsNext, DrawIsNext}
 use Rattle.claim_rule.proofs.Tables.{cases, at_home}
 use Rattle.claim_rule.proofs.Determined.{AreAlike, SayTheSame, HasTwins, itself, same_journal, same_last, same_state}
@@ -160,19 +160,19 @@ module _ {D : Type 0} {verdict : D → Shown → Verdict} {z : Terms D} {s : Con
   abbrev next_state : State
   next_state = next setup_here r.number core
 
-  take_each : (slots : ℕ) (out : List (ℕ × Slot)) → Takes r.caller.phase → IsEachStep verdict z by_journal s next_state behind seat (view_of z (r ∷ []), out) (took verdict (step slots behind 1 0 home.none) (view_of z (r ∷ []), out)) (bit_or (slice_index s.words behind) 1)
+  take_each : (slots : ℕ) (out : List (ℕ × Slot)) → Takes r.caller.phase → IsEachStep verdict z by_journal s next_state behind seat (view_of z (r ∷ []), out) (TriesJournal verdict (step slots behind 1 0 home.none) (view_of z (r ∷ []), out)) (bit_or (slice_index s.words behind) 1)
   take_each slots out to w a rule told =
       let goes = take_goes table to slots out in
       let words = set s.words behind (bit_or (slice_index s.words behind) 1) in
       elim (cases_eq (slice_index s.words behind % 2) 0) [
         | inl even ↦
-            let one = told.0 even in
-            let two = goes.4.0 even in
+            let one = taken_of told even in
+            let two = taken_of goes.4 even in
             let change = same_taking one.change two.change (sym one.phase ∙ two.phase) in
             by_view table next_state (on table) words (homes_after s.homes out a) (homes_after s.homes out goes.1) w goes.0 (with_journal r one.change one.journal) (with_journal r two.change two.journal) one.now two.now goes.3
             (λ _ _. record { alike = record { number = refl; committed = refl }; caller = ap (λ c. record r.caller { phase = Committing c }) change; taken = refl }) rule
         | inr odd ↦
-            by_view table next_state (on table) words (homes_after s.homes out a) (homes_after s.homes out goes.1) w goes.0 r r (ap (λ (m : View D × List (ℕ × Slot)). m.0) (told.1 odd).0) (ap (λ (m : View D × List (ℕ × Slot)). m.0) (goes.4.1 odd).0) goes.3
+            by_view table next_state (on table) words (homes_after s.homes out a) (homes_after s.homes out goes.1) w goes.0 r r (ap (λ (m : View D × List (ℕ × Slot)). m.0) (left_of told odd).0) (ap (λ (m : View D × List (ℕ × Slot)). m.0) (left_of goes.4 odd).0) goes.3
             (λ _ _. itself r) rule
       ]
 

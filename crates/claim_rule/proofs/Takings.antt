@@ -8,7 +8,7 @@ use Rattle.std.proofs.lemmas.Option.{none-some, same_Some, slice_get_within}
 use Rattle.std.specs.Option.{option_len}
 use mathlib.Core.Option as home
 use lib.ListN.{get_elem?}
-use Rattle.atomic_table.specs.Table.{step, keeps, takes, Allows}
+use Rattle.atomic_table.specs.Table.{Step, step, keeps, takes, Allows}
 use Rattle.atomic_table.proofs.Lists.{set_else}
 use Rattle.amoebot_state.specs.declared.verdict.Change.{Change}
 use Rattle.amoebot_state.specs.declared.verdict.Verdict.{Verdict}
@@ -28,7 +28,7 @@ use Rattle.claim_rule.specs.declared.views.Terms.{Terms}
 use Rattle.claim_rule.specs.Views.{Content, Seated, view_of, own, setup_of_terms}
 use Rattle.claim_rule.specs.Manners.{by_journal, first_plain}
 use Rattle.claim_rule.specs.Stands.{journal_slot, turns_left, IsCoreJournal, HasCommitted, AreWords, AreHomes, KeepsRule}
-use Rattle.claim_rule.specs.Commits.{Takes, HasRoomForEntry, IsTakenElsewhere, with_journal, took}
+use Rattle.claim_rule.specs.Commits.{Takes, HasRoomForEntry, IsTakenElsewhere, GotJournal, with_journal, TriesJournal, takes_it, leaves_it}
 use Rattle.claim_rule.specs.Nexts.{GoesTo, IsAt}
 use Rattle.claim_rule.proofs.Tables.{journal_written, journal_else, stamped_alike}
 use Rattle.claim_rule.proofs.Moves.{sound, on, counts, mine, caller_at, my_stamps, moved, moves, taken_else, journal_stays}
@@ -54,6 +54,17 @@ made_odd n o = by o (or_block 1 n 0 (option_len o) 1 (small o) (omega arith))
     by None e = ap (λ (x : ℕ). bit_or x 1) (let q : 2 * n + 0 ≡ n * 2 ^ 1 + 0 = omega arith in q) ∙ (e ∙ (ap (λ (m : ℕ). m * 2 ^ 1 + 1) (or_zero_r n) ∙ (let q : n * 2 ^ 1 + 1 ≡ 2 * n + 1 = omega arith in q)))
     by (Some c) e = ap (λ (x : ℕ). bit_or x 1) (let q : 2 * n + 1 ≡ n * 2 ^ 1 + 1 = omega arith in q) ∙ (e ∙ (ap (λ (m : ℕ). m * 2 ^ 1 + 1) (or_zero_r n) ∙ (let q : n * 2 ^ 1 + 1 ≡ 2 * n + 1 = omega arith in q)))
 
+module _ {D : Type 0} {verdict : D → Shown → Verdict} {st : Step Slot} {m m' : Seated D} {t : ℕ} where
+  -- where the word was even, the seat has the journal
+  pub taken_of : TriesJournal verdict st m t m' → t % 2 ≡ 0 → GotJournal (journal_slot (about verdict m.0).world) m m'
+  taken_of (takes_it _ got) _ = got
+  taken_of (leaves_it odd _ _) even = absurd (odd even)
+
+  -- where it was odd, nothing changed, and another caller has it
+  pub left_of : TriesJournal verdict st m t m' → t % 2 ≢ 0 → (m' ≡ m) × IsTakenElsewhere verdict m.0
+  left_of (takes_it even _) odd = absurd (odd even)
+  left_of (leaves_it _ same elsewhere) _ = (same, elsewhere)
+
 module _ {D : Type 0} {verdict : D → Shown → Verdict} {z : Terms D} {s : Content D} {core : State} {seat : ℕ} {r : Record} (table : IsAt verdict z by_journal s core seat r) where
   abbrev g : Setup
   g = setup_of_terms verdict z
@@ -65,7 +76,7 @@ module _ {D : Type 0} {verdict : D → Shown → Verdict} {z : Terms D} {s : Con
   old = slice_index s.words last
 
   abbrev Goes : Type 0
-  Goes = (slots : ℕ) (carried : List (ℕ × Slot)) → GoesTo verdict z by_journal s (next g r.number core) last seat (view_of z (r ∷ []), carried) (took verdict (step slots last 1 0 home.none) (view_of z (r ∷ []), carried)) (bit_or old 1)
+  Goes = (slots : ℕ) (carried : List (ℕ × Slot)) → GoesTo verdict z by_journal s (next g r.number core) last seat (view_of z (r ∷ []), carried) (TriesJournal verdict (step slots last 1 0 home.none) (view_of z (r ∷ []), carried)) (bit_or old 1)
 
   still : (x : ℕ) (q : Record) → IsStamped g s.words q → IsStamped g (set s.words last x) q
   still x q = stamped_alike g s.words (set s.words last x) (λ k lt. (ap word_occ (journal_else by_journal g s.words x k lt), ap word_stamp (journal_else by_journal g s.words x k lt))) q
@@ -84,7 +95,7 @@ module _ {D : Type 0} {verdict : D → Shown → Verdict} {z : Terms D} {s : Con
       keeps,
       tt,
       moves table core (next g r.number core) (on table) r.caller r.won r.note (set s.words last (bit_or old 1)) s.homes (sym (leads_by (Some d) e)) same_callers refl refl (omega arith) words table.stands.homes (λ q apart rec st. still (bit_or old 1) q st) (still (bit_or old 1) r (my_stamps table)),
-      ((λ even. absurd (suc-ne-zero 0 (sym (ap (λ x. x % 2) (word_is (Some d) e) ∙ odd (length core.journal) (Some d)) ∙ even))), λ _. (refl, elsewhere)),
+      leaves_it (λ even. suc-ne-zero 0 (sym (ap (λ x. x % 2) (word_is (Some d) e) ∙ odd (length core.journal) (Some d)) ∙ even)) refl elsewhere,
     )
       where
         is_not_mine : d ≢ r.number
@@ -112,7 +123,7 @@ module _ {D : Type 0} {verdict : D → Shown → Verdict} {z : Terms D} {s : Con
       takes (journal_slot z.world) (slot.Journal j),
       has.1,
       moved table new (next g r.number core) (on table) (with_journal r change j) (set s.words last (bit_or old 1)) (set s.homes (journal_slot z.world) home.none) (sym (leads_by None e)) refl refl words homes others mine_is (λ q apart rec st. still (bit_or old 1) q st) (let st = still (bit_or old 1) r (my_stamps table) in record { won = st.won; noted = st.noted }) few,
-      ((λ _. record { change = change; phase = p; journal = j; room = room; now = refl; out = refl }), λ ne. absurd (ne (ap (λ x. x % 2) (word_is None e) ∙ odd (length core.journal) None))),
+      takes_it (ap (λ x. x % 2) (word_is None e) ∙ odd (length core.journal) None) (record { change = change; phase = p; journal = j; room = room; now = refl; out = refl }),
     )
       where
         has : (v : Kept) × (get_elem? s.homes (journal_slot z.world) ≡ home.some (home.some (slot.Journal v))) × IsCoreJournal g core v
@@ -165,7 +176,7 @@ module _ {D : Type 0} {verdict : D → Shown → Verdict} {z : Terms D} {s : Con
   take_goes to = by_holder to.0 to.1 core.holder refl
 
 module _ {D : Type 0} (verdict : D → Shown → Verdict) (z : Terms D) (ok : IsSetup (setup_of_terms verdict z)) where
-  pub take_allowed : (slots seat : ℕ) (me : Seated D) → me.0 ≡ view_of z (own me.0 ∷ []) → Takes (own me.0).caller.phase → Allows (KeepsRule verdict z by_journal) slots seat me (cells z.world) (λ x. bit_or x 1) (took verdict (step slots (cells z.world) 1 0 home.none) me)
+  pub take_allowed : (slots seat : ℕ) (me : Seated D) → me.0 ≡ view_of z (own me.0 ∷ []) → Takes (own me.0).caller.phase → Allows (KeepsRule verdict z by_journal) slots seat me (cells z.world) (λ x. bit_or x 1) (TriesJournal verdict (step slots (cells z.world) 1 0 home.none) me)
   take_allowed slots seat me one to =
-      allowed verdict z by_journal ok slots seat me (cells z.world) (λ x. bit_or x 1) (λ m. Takes (own m.0).caller.phase) (took verdict (step slots (cells z.world) 1 0 home.none)) one to
+      allowed verdict z by_journal ok slots seat me (cells z.world) (λ x. bit_or x 1) (λ m. Takes (own m.0).caller.phase) (TriesJournal verdict (step slots (cells z.world) 1 0 home.none)) one to
       (λ s core r table fact. inl (take_goes table fact slots me.1))

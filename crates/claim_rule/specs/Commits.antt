@@ -86,11 +86,18 @@ module _ {D : Type 0} (verdict : D → Shown → Verdict) where
     pub has : core.holder ≡ Some holder
     pub other : holder ≢ (own v).number
 
-  -- an even word was found, and the seat has the journal; or an odd one, and nothing changed,
-  -- since another caller has it
-  abbrev pub took : Step Slot → Seated D → ℕ → Seated D → Type 0
-  took st m t m' = (t % 2 ≡ 0 → GotJournal (journal_slot (about verdict m.0).world) m m')
-      × (t % 2 ≢ 0 → (m' ≡ m) × IsTakenElsewhere m.0)
+  -- a try to take the journal found an even word, and the seat has the journal;
+  -- or it found an odd one, and nothing changed, since another caller has it
+  pub data TriesJournal : Step Slot → Seated D → ℕ → Seated D → Type 0 where
+    takes_it : {st : Step Slot} {m m' : Seated D} {t : ℕ}
+        → t % 2 ≡ 0
+        → GotJournal (journal_slot (about verdict m.0).world) m m'
+        → TriesJournal st m t m'
+    leaves_it : {st : Step Slot} {m m' : Seated D} {t : ℕ}
+        → t % 2 ≢ 0
+        → m' ≡ m
+        → IsTakenElsewhere m.0
+        → TriesJournal st m t m'
 
   -- the caller's change is to be committed: the seat has the journal to put home with the slot
   -- of this number, with the change's entry in it, and the word to store is twice its length

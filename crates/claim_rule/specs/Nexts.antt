@@ -20,7 +20,7 @@ use Rattle.claim_rule.specs.Manners.{CommitWay, by_journal, by_ticket, next_by}
 use Rattle.claim_rule.specs.Stands.{Stands, KeepsRule, journal_slot}
 use Rattle.claim_rule.specs.Plays.{IsToTry, IsToFree, IsToRead, Claims, Releases, ReadsLength}
 use Rattle.claim_rule.specs.Plays.{IsToTryNode, IsToWin, IsToFreeNode, LooksAt, TriesNode, ReleasesNode}
-use Rattle.claim_rule.specs.Commits.{Takes, IsToCommit, took, stored, drew}
+use Rattle.claim_rule.specs.Commits.{Takes, IsToCommit, TriesJournal, stored, drew}
 
 module _ {D : Type 0} (verdict : D → Shown → Verdict) (z : Terms D) (way : CommitWay) where
   -- Once x is put in the word i, the table stands for this state.
@@ -140,7 +140,7 @@ module _ {D : Type 0} (verdict : D → Shown → Verdict) (z : Terms D) where
       → IsAt verdict z by_journal s core seat r
       → Takes r.caller.phase
       → MakesItsStep verdict z by_journal s core (cells z.world) seat r out
-      (took verdict (step slots (cells z.world) 1 0 none) (view_of z (r ∷ []), out))
+      (TriesJournal verdict (step slots (cells z.world) 1 0 none) (view_of z (r ∷ []), out))
       (bit_or (slice_index s.words (cells z.world)) 1)
 
   -- a commit, which puts twice the new length in the journal's word

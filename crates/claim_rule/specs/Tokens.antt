@@ -68,7 +68,7 @@ pub record RefusedOf : Type 0 where
   pub place : ℕ
 
 -- a turn and a place in the journal: that of the entry which it committed,
--- or the length that it saw with its whole zone held
+-- or the length that it saw when it looked
 pub record PlacedTurn : Type 0 where
   pub caller : ℕ
   pub turn : ℕ

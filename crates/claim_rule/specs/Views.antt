@@ -81,6 +81,10 @@ module _ {D : Type 0} where
     abbrev pub setup_of_terms : Terms D → Setup
     setup_of_terms z = record { verdict = verdict z.decider; world = z.world; lists = z.lists }
 
+    -- what a run of a decider is about, from a world by lists
+    abbrev pub setup_for : D → Config → CallerLists → Setup
+    setup_for d w l = setup_of_terms (field_terms d w l)
+
     -- the same for a view, which a spent one has not
     abbrev pub setup_at : Option (Terms D) → Setup
     setup_at None =

@@ -1,3 +1,4 @@
+//! The turn of a caller, and the length of the journal at one of its steps.
 ghost use Rattle.std.specs.Prelude.{◌≡◌};
 ghost use Rattle.claim_rule.specs.Tokens.{placed_turn};
 
@@ -12,7 +13,7 @@ pub struct Looked;
 #[derive(Drop)]
 pub struct Committed;
 
-/// The length of the journal that a turn saw with its whole zone held.
+/// The length of the journal that a turn saw when it looked: with its whole zone held, or after a refusal.
 pub type Seen<W = ByJournal> = Placed<Looked, W>;
 
 /// The place in the journal of the entry that a turn committed.

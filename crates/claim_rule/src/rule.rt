@@ -2,7 +2,7 @@
 ghost use Rattle.claim_rule.specs.Views.{field_terms};
 ghost use Rattle.claim_rule.specs.Stands.{KeepsRule, first_view};
 ghost use Rattle.claim_rule.specs.Plays.{Claims, Releases, LooksAt, TriesNode, ReleasesNode, ReadsLength};
-ghost use Rattle.claim_rule.specs.Commits.{took, stored, drew};
+ghost use Rattle.claim_rule.specs.Commits.{TriesJournal, stored, drew};
 
 use crate::manner::{ByJournal, Manner};
 use crate::views::{Key, Slot, View};
@@ -72,7 +72,7 @@ impl<D: Decider, W: Manner> Play<Slot, View<D>> for Read<W> {
 pub(crate) struct Take;
 
 impl<D: Decider> Play<Slot, View<D>> for Take {
-    ghost then = { took D.verdict };
+    ghost then = { TriesJournal D.verdict };
 }
 
 /// A commit.

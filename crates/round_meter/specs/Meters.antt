@@ -91,8 +91,9 @@ pub record GoesOnWith (f : Shown → Verdict) (e : Entry) (old new : Metered) : 
 abbrev pub GoesOnIn : {E : Type 0} → (Entry → E) → (Shown → Verdict) → E → Metered → Metered → Type 0
 GoesOnIn form f told old new = InForm form (λ (e : Entry). GoesOnWith f e old new) told
 
--- What a call leaves that feeds a meter.
--- The meter goes on, or its world has no such step and it stays.
+-- What a call leaves that feeds a meter with an entry.
+-- The meter goes on, and has been fed one entry more.
+-- Or its world has no such step: the call tells the place of the entry, and the meter stays.
 pub record IsFed {A D : Type 0} (GoesOn : Metered → Metered → Type 0) (HasNoStep : Config → Type 0)
     (old new : MeterOf D) (result : Result A Differs) : Type 0 where
   pub goes_on : OnOk result (GoesOn old.state new.state)

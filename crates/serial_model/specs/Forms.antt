@@ -23,8 +23,8 @@ pub record IsForm {E : Type 0} (form : Entry → E) (bot : E → ℕ) (entry : E
   pub decided : (told : E) (change : Change)
       → (form (entry told change) ≡ told) ⊎ (form (entry told change) ≡ told → ⊥)
 
--- Something is told in a form: some entry, or some entries by the form of each, has that form,
--- and this holds of it.
+-- Something is told in a form, and `Holds` is true of what it tells:
+-- an entry has that form, or entries have it one by one, and `Holds` is true of these.
 pub record InForm {A E : Type 0} (form : A → E) (Holds : A → Type 0) (told : E) : Type 0 where
   pub source : A
   pub tells : form source ≡ told

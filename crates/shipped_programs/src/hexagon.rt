@@ -248,8 +248,8 @@ fn retire_body(alloc: Global) -> Result<Vec<Stmt>, AllocError>
     let_and_put(alloc, last, aim(), Term::Dir(port), 4)
 }
 
-/// `( p . state = 1 or p . state = 4 ) and not ( linked turn p 5 and ( turn p 5 . state =
-/// 1 or turn p 5 . state = 4 ) )`
+/// `( p . state = 1 or p . state = 4 )`
+/// `and not ( linked turn p 5 and ( turn p 5 . state = 1 or turn p 5 . state = 4 ) )`
 fn last_retired(alloc: Global) -> Result<Guard, AllocError>
     ensures { IfOk result (λ g. guard_of g ≡ last_retired) }
 {

@@ -59,8 +59,8 @@ move contract tail
 end
 ";
 
-/// The text of `erosion`, in which contracted amoebots, which all start with `cand` 1 and `leader`
-/// 0, give up to be a leader until one is left.
+/// The text of `erosion`, in which contracted amoebots give up to be a leader until one is left.
+/// They all start with `cand` 1 and `leader` 0.
 pub const EROSION: &str = "\
 program
 guard off

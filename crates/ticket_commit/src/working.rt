@@ -4,7 +4,7 @@ ghost use Rattle.amoebot_state.specs.Configs.{bot_at};
 ghost use Rattle.claim_core.specs.Good.{Good};
 ghost use Rattle.claim_core.specs.Reached.{Reached};
 ghost use Rattle.claim_core.specs.Tickets.{TicketReached};
-ghost use Rattle.claim_rule.specs.Views.{setup_of_terms, field_terms};
+ghost use Rattle.claim_rule.specs.Views.{setup_for};
 ghost use Rattle.turn_desks.specs.Turns.{AreTurnsOf};
 
 use crate::activating::TicketTurn;
@@ -39,9 +39,9 @@ pub fn work_tickets<R: Threads + Wait + Sync, D: Decider, G: Gate>(
 ) -> Result<TicketWorked, NoMemory>
     requires { All (All (λ id. IsSome (bot_at world id))) lists.now.ids }
     ensures ticketed { IfOk result (λ worked.
-        TicketReached (setup_of_terms D.verdict (field_terms decider.now world lists.now)) worked.report) }
+        TicketReached (setup_for D.verdict decider.now world lists.now) worked.report) }
     ensures reached { IfOk result (λ worked.
-        Reached (setup_of_terms D.verdict (field_terms decider.now world lists.now)) worked.report) }
+        Reached (setup_for D.verdict decider.now world lists.now) worked.report) }
     ensures good { IfOk result (λ worked. Good (D.verdict decider.now) world lists.now worked.report) }
     ensures turns { IfOk result (λ worked. AreTurnsOf worked.report.turns worked.turns) }
 {

@@ -3,7 +3,7 @@ ghost use Rattle.std.specs.Prelude.{◌≡◌, [], length, IfOk};
 ghost use Rattle.claim_core.specs.Good.{Good};
 ghost use Rattle.claim_core.specs.Reached.{Reached};
 ghost use Rattle.claim_core.specs.Tickets.{TicketReached};
-ghost use Rattle.claim_rule.specs.Views.{setup_of_terms, field_terms};
+ghost use Rattle.claim_rule.specs.Views.{setup_for};
 
 use crate::turns::Turns;
 use amoebot_state::{Decider, NoMemory, World};
@@ -26,9 +26,9 @@ pub fn without_lists<D: Decider, A>(
 ) -> Result<Worked<A>, NoMemory>
     requires { length lists.now.ids ≡ 0 }
     ensures ticketed { IfOk result (λ worked.
-        TicketReached (setup_of_terms D.verdict (field_terms decider.now world lists.now)) worked.report) }
+        TicketReached (setup_for D.verdict decider.now world lists.now) worked.report) }
     ensures reached { IfOk result (λ worked.
-        Reached (setup_of_terms D.verdict (field_terms decider.now world lists.now)) worked.report) }
+        Reached (setup_for D.verdict decider.now world lists.now) worked.report) }
     ensures good { IfOk result (λ worked. Good (D.verdict decider.now) world lists.now worked.report) }
     ensures marks { IfOk result (λ worked. worked.report.turns.marks ≡ []) }
     ensures turns { IfOk result (λ worked. worked.turns ≡ []) }

@@ -7,7 +7,7 @@ ghost use Rattle.claim_core.specs.Limits.{most_turns};
 ghost use Rattle.claim_rule.specs.Views.{own, goes_on};
 ghost use Rattle.claim_rule.specs.Stands.{journal_slot};
 ghost use Rattle.claim_rule.specs.Plays.{IsToTry, IsToFree, IsToRead, about, marked_at, Claims, Releases, ReadsLength};
-ghost use Rattle.claim_rule.specs.Commits.{Takes, IsToCommit, took, stored, drew};
+ghost use Rattle.claim_rule.specs.Commits.{Takes, IsToCommit, TriesJournal, stored, drew};
 ghost use Rattle.claim_rule.specs.Internal.{MayStep, IsSameSeat};
 
 use crate::field::Field;
@@ -86,7 +86,7 @@ impl<'d, D: Decider> Field<'d, D> {
         requires may { MayStep self.now seat.old }
         requires takes { Takes (own seat.old.me.0).caller.phase }
         ensures same { IsSameSeat seat.old seat.new }
-        ensures told { took D.verdict
+        ensures told { TriesJournal D.verdict
             (step self.now.table.slots (cells self.now.terms.world) 1 0 none) seat.old.me result seat.new.me }
     {
         let journal = self.journal_number();

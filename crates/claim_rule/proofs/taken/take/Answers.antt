@@ -11,6 +11,7 @@ use Rattle.claim_rule.specs.Commits.{GotJournal}
 use Rattle.claim_rule.specs.Tokens.{Token, KeepsRoom, KeepsFound, doing, frame_of}
 use Rattle.claim_rule.specs.Settling.{IsTaken, IsReadyEntry}
 use Rattle.claim_rule.proofs.SettlingLemmas.{got_it}
+use Rattle.claim_rule.proofs.Takings.{taken_of, left_of}
 use Rattle.claim_rule.proofs.taken.take.Goals as goal
 
 pub invariant_of-result : goal.invariant_of-result
@@ -19,7 +20,7 @@ invariant_of-result g c =
     let m = c.take_journal-word.new.seat.me in
     let now = c.ready-entry.ensures.same ∙ ap (λ (q : Room). record q { changes = room.changes }) c.deref_mut.ensures.value in
     let r = c.claimed.inside.activation.room.value in
-    let stays = subst (λ (n : Seated g.row.D.Denot). KeepsRoom g.D.Decider.verdict by_journal n r × KeepsFound g.D.Decider.verdict n r) (sym (c.take_journal-word.ensures.told.1 c.if-word-ne0.true).0) c.claimed.invariant in
+    let stays = subst (λ (n : Seated g.row.D.Denot). KeepsRoom g.D.Decider.verdict by_journal n r × KeepsFound g.D.Decider.verdict n r) (sym (left_of c.take_journal-word.ensures.told c.if-word-ne0.true).0) c.claimed.invariant in
     let found = stays.1 in
     subst (λ (q : Room). KeepsRoom g.D.Decider.verdict by_journal m q × KeepsFound g.D.Decider.verdict m q) (sym now) (stays.0, record { told = found.told; kept = found.kept; whole = found.whole })
 
@@ -29,7 +30,7 @@ invariant_of-result-2 g c =
     let m = c.take_journal-word.new.seat.me in
     let got = got_it g.D.Decider.verdict c.claimed.inside.activation.seat.me _ _ _ _ _ _ _ c.claimed.invariant.1.told _ c.args.change _ m
     c.claimed.invariant.0 c.claimed.invariant.1.whole (ap (λ (t : Token _). (doing t).phase) c.claimed.view_is ∙ c.requires.change) (sym (ap (λ o. journal_slot (setup_at g.D.Decider.verdict o).world) terms))
-    (subst (λ k. GotJournal k c.claimed.inside.activation.seat.me c.take_journal-word.new.seat.me) (ap (λ o. journal_slot (setup_at g.D.Decider.verdict o).world) terms) (c.take_journal-word.ensures.told.0 c.if-word-ne0.false)) in
+    (subst (λ k. GotJournal k c.claimed.inside.activation.seat.me c.take_journal-word.new.seat.me) (ap (λ o. journal_slot (setup_at g.D.Decider.verdict o).world) terms) (taken_of c.take_journal-word.ensures.told c.if-word-ne0.false)) in
     let r = c.claimed.inside.activation.room.value in
     let room = c.ready-entry.new.self in
     let now = c.ready-entry.ensures.same ∙ ap (λ (q : Room). record q { changes = room.changes }) c.deref_mut.ensures.value in

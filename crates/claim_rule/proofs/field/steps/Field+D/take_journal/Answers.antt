@@ -4,7 +4,7 @@ use mathlib.Core.Option.{none}
 use Rattle.claim_rule.specs.Manners.{by_journal}
 use Rattle.claim_rule.specs.Views.{field_terms}
 use Rattle.claim_rule.specs.Stands.{KeepsRule}
-use Rattle.claim_rule.specs.Commits.{took}
+use Rattle.claim_rule.specs.Commits.{TriesJournal}
 use Rattle.claim_rule.proofs.Takings.{take_allowed}
 use Rattle.claim_rule.proofs.TokensLemmas.{alone_of, on_journal}
 use Rattle.claim_rule.proofs.field.steps.Field+D.take_journal.Goals as goal
@@ -15,5 +15,5 @@ fetch_or-requires g c =
     let slots = c.self.inside.table.shared.table_id.slots in
     let z = field_terms c.self.inside.table.shared.key.decider.now c.self.inside.table.shared.key.world c.self.inside.table.shared.key.lists.now in
     let alone = alone_of c.self.view_is c.requires.may.alone in
-    on_journal c.self.view_is (λ w. Allows (KeepsRule g.D.Decider.verdict z by_journal) slots c.args.seat.now.id me w (λ x. bit_or x 1) (took g.D.Decider.verdict (step slots w 1 0 none) me)) c.requires.may.table c.journal_number-journal.ensures.word c.journal_number-journal.ensures.number
+    on_journal c.self.view_is (λ w. Allows (KeepsRule g.D.Decider.verdict z by_journal) slots c.args.seat.now.id me w (λ x. bit_or x 1) (TriesJournal g.D.Decider.verdict (step slots w 1 0 none) me)) c.requires.may.table c.journal_number-journal.ensures.word c.journal_number-journal.ensures.number
     (take_allowed g.D.Decider.verdict z c.self.invariant.run slots _ me alone c.requires.takes)
