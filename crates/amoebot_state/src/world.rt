@@ -27,7 +27,8 @@ use tri_lattice::{Area, Node};
 
 /// A world: an area, walls in it, the maxima of the variables, and at most 4,096 amoebots,
 /// which are numbered from 0.
-/// It is valid: each amoebot stands in the area, on one node or on two adjacent ones, and on no wall.
+/// It is valid: each amoebot stands in the area, on one node or on two adjacent ones,
+/// and on no wall.
 /// No node belongs to two amoebots, each rotation is below 6, and no value is above its maximum.
 ///
 /// Beside them it keeps the occupant of each node of the area.

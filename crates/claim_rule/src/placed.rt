@@ -13,7 +13,8 @@ pub struct Looked;
 #[derive(Drop)]
 pub struct Committed;
 
-/// The length of the journal that a turn saw when it looked: with its whole zone held, or after a refusal.
+/// The length of the journal that a turn saw when it looked:
+/// with its whole zone held, or after a refusal.
 pub type Seen<W = ByJournal> = Placed<Looked, W>;
 
 /// The place in the journal of the entry that a turn committed.
