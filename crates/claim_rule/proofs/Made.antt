@@ -43,7 +43,7 @@ use Rattle.claim_rule.proofs.NodeReleases.{node_release_goes}
 use Rattle.claim_rule.proofs.Claims.{claim_goes}
 use Rattle.claim_rule.proofs.Releases.{release_goes}
 use Rattle.claim_rule.proofs.Looks.{look_goes}
-use Rattle.claim_rule.proofs.Takings.{take_goes}
+use Rattle.claim_rule.proofs.Takings.{take_goes, taken_of, left_of}
 use Rattle.claim_rule.proofs.Commits.{commit_goes}
 use Rattle.claim_rule.proofs.Draws.{draw_goes}
 use Rattle.claim_rule.proofs.WayLemmas.{sound_by}

@@ -41,6 +41,7 @@ impl<D: Decider> Model for Taken<D> {
 /// One try to take the journal, for the change that was decided on what the claim found.
 /// The claim and the change come back as they were where this step
 /// found that another caller has it.
+#[tactic(auto, using(crate::proofs::Takings::taken_of, crate::proofs::Takings::left_of))]
 pub fn take<D: Decider>(
     claimed: Claimed<D>,
     field: &Field<'_, D>,
