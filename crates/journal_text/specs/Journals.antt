@@ -30,7 +30,7 @@ use Rattle.amoebot_state.specs.declared.verdict.Moved.{Moved}
 use Rattle.amoebot_state.specs.declared.verdict.Moved.TheVariants as moved
 use Rattle.amoebot_state.specs.Limits.{most_pairs}
 use Rattle.amoebot_state.specs.Pairs.{CellChange}
-use Rattle.amoebot_state.specs.Steps.{plain_entry}
+use Rattle.amoebot_state.specs.Steps.{entry_of, plain_entry}
 use Rattle.claim_core.specs.Limits.{most_turns}
 use Rattle.journal_text.specs.Limits.{last_caller, last_turn}
 use Rattle.node_text.specs.Parts.{word, is_end, past_most, one_more, IsWord, Means, IsNumber, IsNode, IsEnd, IsPortText, IsBotText}
@@ -229,14 +229,8 @@ full_change t = (t.0, unwrap_or t.1 t.2, t.2)
 
 abbrev pub entry_by : WrittenEntry → Entry
 entry_by w =
-    record {
-      caller = w.caller;
-      turn = w.turn;
-      bot = w.bot;
-      action = w.action;
-      moved = w.moved;
-      patch = map full_change w.changes;
-    }
+    entry_of w.caller w.turn w.bot
+    (record { action = w.action; moved = w.moved; patch = map full_change w.changes })
 
 -- that of version 3
 abbrev pub IsJournal : ℕ → ℕ → ℕ → Lang (List Entry)

@@ -20,26 +20,29 @@ pub enum Turn<W = ByJournal> {
 }
 
 impl<W> Turn<W> {
+    /// The caller whose turn it was, and its number among the caller's turns.
+    fn whose(&self) -> (u8, u32)
+        ensures { result ≡ (caller_of self.now, turn_of self.now) }
+    {
+        match self {
+            Turn::Done(receipt) => (receipt.caller(), receipt.turn()),
+            Turn::Idle(seen) | Turn::Failed(_, seen) => (seen.caller(), seen.turn()),
+            Turn::Busy(refused) => (refused.caller(), refused.turn()),
+        }
+    }
+
     /// The caller whose turn it was.
     pub fn caller(&self) -> u8
         ensures { result ≡ caller_of self.now }
     {
-        match self {
-            Turn::Done(receipt) => receipt.caller(),
-            Turn::Idle(seen) | Turn::Failed(_, seen) => seen.caller(),
-            Turn::Busy(refused) => refused.caller(),
-        }
+        self.whose().0
     }
 
     /// Its number among the caller's turns.
     pub fn turn(&self) -> u32
         ensures { result ≡ turn_of self.now }
     {
-        match self {
-            Turn::Done(receipt) => receipt.turn(),
-            Turn::Idle(seen) | Turn::Failed(_, seen) => seen.turn(),
-            Turn::Busy(refused) => refused.turn(),
-        }
+        self.whose().1
     }
 
     /// Its mark.

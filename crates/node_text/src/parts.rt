@@ -15,11 +15,14 @@ use arrayvec::ArrayVec;
 use text_tokens::{ReadRefusal, RefusalKind, TokenKind, Tokens, number_up_to, refused, the_line};
 use tri_lattice::Node;
 
+/// What a function that reads answers.
+pub type Reading<T> = Result<T, ReadRefusal>;
+
 /// How many values an amoebot has room for.
 const VALUES: usize = 8;
 
 /// The word that has to stand here, for its line.
-pub fn read_word(tokens: &mut Tokens<'_>, text: &[u8]) -> Result<u32, ReadRefusal>
+pub fn read_word(tokens: &mut Tokens<'_>, text: &[u8]) -> Reading<u32>
     ensures reads { Gives (λ line. line) (reader.a_word text.now) tokens.old result tokens.new }
     ensures sure { IfErr result (λ e. e ≢ NoMemory) }
 {
@@ -33,7 +36,7 @@ pub fn read_word_within(
     text: &[u8],
     most: u32,
     before: u32,
-) -> Result<u32, ReadRefusal>
+) -> Reading<u32>
     ensures reads { Gives (λ line. line)
         (reader.word_within text.now most before) tokens.old result tokens.new }
     ensures room { IfOk result (λ _. before < most) }
@@ -47,7 +50,7 @@ pub fn read_word_within(
 }
 
 /// A number up to this one. One above is `BadRange`.
-pub fn read_up_to(tokens: &mut Tokens<'_>, most: u32) -> Result<u32, ReadRefusal>
+pub fn read_up_to(tokens: &mut Tokens<'_>, most: u32) -> Reading<u32>
     ensures reads { Gives (λ n. n) (reader.up_to most) tokens.old result tokens.new }
     ensures within { IfOk result (λ n. n ≤ most) }
     ensures sure { IfErr result (λ e. e ≢ NoMemory) }
@@ -56,7 +59,7 @@ pub fn read_up_to(tokens: &mut Tokens<'_>, most: u32) -> Result<u32, ReadRefusal
 }
 
 /// A whole number, no farther from 0 than `most`. Blanks may stand behind its sign.
-pub fn read_int(tokens: &mut Tokens<'_>, most: u16) -> Result<i16, ReadRefusal>
+pub fn read_int(tokens: &mut Tokens<'_>, most: u16) -> Reading<i16>
     requires { most < 32768 }
     ensures reads { Gives (λ z. z) (reader.an_int most) tokens.old result tokens.new }
     ensures low { IfOk result (λ z. (pos 0 -ℤ pos most) ≤ℤ z) }
@@ -73,7 +76,7 @@ pub fn read_int(tokens: &mut Tokens<'_>, most: u16) -> Result<i16, ReadRefusal>
 
 /// A node by its coordinates, which are no farther than 9,999 from 0.
 #[tactic(auto, unfolding(crate::specs::PartReaders::a_node))]
-pub fn read_node(tokens: &mut Tokens<'_>) -> Result<Node, ReadRefusal>
+pub fn read_node(tokens: &mut Tokens<'_>) -> Reading<Node>
     ensures reads { Gives (λ v. v) reader.a_node tokens.old result tokens.new }
     ensures near { IfOk result IsNear }
     ensures sure { IfErr result (λ e. e ≢ NoMemory) }
@@ -84,7 +87,7 @@ pub fn read_node(tokens: &mut Tokens<'_>) -> Result<Node, ReadRefusal>
 }
 
 /// An end of an amoebot.
-pub fn read_end(tokens: &mut Tokens<'_>) -> Result<End, ReadRefusal>
+pub fn read_end(tokens: &mut Tokens<'_>) -> Reading<End>
     ensures reads { Gives (λ e. e) reader.an_end tokens.old result tokens.new }
     ensures sure { IfErr result (λ e. e ≢ NoMemory) }
 {
@@ -98,7 +101,7 @@ pub fn read_end(tokens: &mut Tokens<'_>) -> Result<End, ReadRefusal>
 }
 
 /// A chirality.
-pub fn read_chirality(tokens: &mut Tokens<'_>) -> Result<Chir, ReadRefusal>
+pub fn read_chirality(tokens: &mut Tokens<'_>) -> Reading<Chir>
     ensures reads { Gives (λ c. c) reader.a_chirality tokens.old result tokens.new }
     ensures sure { IfErr result (λ e. e ≢ NoMemory) }
 {
@@ -113,7 +116,7 @@ pub fn read_chirality(tokens: &mut Tokens<'_>) -> Result<Chir, ReadRefusal>
 
 /// A port, whose direction is 0 to 5.
 #[tactic(auto, unfolding(crate::specs::PartReaders::a_port_text))]
-pub fn read_port(tokens: &mut Tokens<'_>) -> Result<Port, ReadRefusal>
+pub fn read_port(tokens: &mut Tokens<'_>) -> Reading<Port>
     ensures reads { Gives (λ p. p) reader.a_port_text tokens.old result tokens.new }
     ensures sure { IfErr result (λ e. e ≢ NoMemory) }
 {
@@ -123,7 +126,7 @@ pub fn read_port(tokens: &mut Tokens<'_>) -> Result<Port, ReadRefusal>
 }
 
 /// A value for each variable, of which there are at most 8.
-fn read_values(tokens: &mut Tokens<'_>, vars: u8) -> Result<ArrayVec<u8, VALUES>, ReadRefusal>
+fn read_values(tokens: &mut Tokens<'_>, vars: u8) -> Reading<ArrayVec<u8, VALUES>>
     requires { vars ≤ most_vars }
     ensures reads { Gives (λ values. values.items) (reader.values vars) tokens.old result tokens.new }
     ensures sure { IfErr result (λ e. e ≢ NoMemory) }
@@ -149,7 +152,7 @@ fn memory(values: &[u8]) -> [u8; VALUES]
 
 /// An amoebot with a value for each variable, of which there are at most 8.
 #[tactic(auto, unfolding(crate::specs::PartReaders::a_bot))]
-pub fn read_bot(tokens: &mut Tokens<'_>, vars: u8) -> Result<Bot, ReadRefusal>
+pub fn read_bot(tokens: &mut Tokens<'_>, vars: u8) -> Reading<Bot>
     requires { vars ≤ most_vars }
     ensures reads { Gives (λ b. b) (reader.a_bot vars) tokens.old result tokens.new }
     ensures plain { IfOk result IsBotInRange }

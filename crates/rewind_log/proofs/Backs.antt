@@ -34,17 +34,21 @@ back_before f last old new es place e lt there back step = record {
   run = subst (λ xs. Run f old xs last) (sym (drop_more es place e lt ∙ ap (λ x. x ∷ drop (place + 1) es) there)) (new, step.step, back.run);
 }
 
-pub runs_lead_back : RunsLeadBack
-runs_lead_back f first last world entries zero valid run le reached = record {
+-- the same with its premises one by one
+pub leads_back : (f : Shown → Verdict) (first last world : Config) (es : List Entry) (place : ℕ) → IsValid first → Run f first es last → place ≤ length es → Run f first (take place es) world → IsBack f last es place world
+leads_back f first last world entries zero valid run le reached = record {
   within = le;
   valid = subst IsValid (sym reached) valid;
   run = subst (λ (c : Config). Run f c entries last) (sym reached) run;
 }
-runs_lead_back f first last world [] (suc place) valid run le reached = absurd (omega (arith, le))
-runs_lead_back f first last world (e ∷ es) (suc place) valid run le reached =
+leads_back f first last world [] (suc place) valid run le reached = absurd (omega (arith, le))
+leads_back f first last world (e ∷ es) (suc place) valid run le reached =
     let same : reached.0 ≡ run.0 = step_has_one_result f first e reached.0 run.0 reached.1 run.1 in
     more_in_front f last world e es place
-    (runs_lead_back f run.0 last world es place run.1.patched.valid run.2 (omega (arith, le)) (subst (λ (c : Config). Run f c (take place es) world) same reached.2))
+    (leads_back f run.0 last world es place run.1.patched.valid run.2 (omega (arith, le)) (subst (λ (c : Config). Run f c (take place es) world) same reached.2))
+
+pub runs_lead_back : RunsLeadBack
+runs_lead_back f first last world entries place lead = leads_back f first last world entries place lead.valid lead.run lead.within lead.there
 
 pub backs_are_runs : BacksAreRuns
 backs_are_runs f first last entries back = (back.valid, back.run)

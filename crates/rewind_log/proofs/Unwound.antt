@@ -1,5 +1,5 @@
 -- What going back to a place comes to.
-use Rattle.std.proofs.Common.{◌≡◌, ◌≢◌, ◌⊎◌, ◌&&◌, ◌∙◌, ap, refl, inl, inr, ℕ, List, [], ◌∷◌, length, Bool, nat_eq, int_eq, Result, Ok, Err}
+use Rattle.std.proofs.Common.{◌≡◌, ◌≢◌, ◌⊎◌, ◌&&◌, ◌∙◌, ◌≤◌, ap, refl, inl, inr, ℕ, List, [], ◌∷◌, length, take, Bool, nat_eq, int_eq, Result, Ok, Err}
 use Rattle.std.specs.Prelude.{IfOk, IfErr}
 use Rattle.std.specs.Bool.{Decides}
 use Rattle.std.specs.Cmp.Lexicographic.{bytes_decides}
@@ -7,15 +7,16 @@ use Rattle.std.proofs.lemmas.Bool.{cases_Bool, cases_eq, both_ways, and_from, eq
 use Rattle.std.proofs.lemmas.Bool.Decides.{Decides-int_eq}
 use Rattle.amoebot_state.specs.declared.verdict.Entry.{Entry}
 use Rattle.amoebot_state.specs.declared.verdict.Verdict.{Verdict}
-use Rattle.amoebot_state.specs.Configs.{Config}
+use Rattle.amoebot_state.specs.Configs.{Config, IsValid}
 use Rattle.amoebot_state.specs.Zones.{Shown}
+use Rattle.amoebot_state.specs.Steps.{Run}
 use Rattle.amoebot_state.proofs.Values.{same_extent}
 use Rattle.serial_model.specs.declared.replays.Differs.{Differs}
 use Rattle.rewind_log.specs.Rewinds.{IsBack, IsLastNoStep}
 use Rattle.rewind_log.specs.Unwinding.{HasSameFrame, IsUnwound}
 use Rattle.rewind_log.specs.Unwinding.IsUnwound.{other_frame, no_way_back, at_place}
 use Rattle.rewind_log.specs.Laws.{UnwoundIsUnique, UnwoundIsSome, RunsKeepFrame, UnwindingUndoesRuns}
-use Rattle.rewind_log.proofs.Backs.{back_is_unique, last_no_step_is_unique, back_has_no_last_no_step, back_or_last_no_step, runs_lead_back}
+use Rattle.rewind_log.proofs.Backs.{back_is_unique, last_no_step_is_unique, back_has_no_last_no_step, back_or_last_no_step, leads_back}
 
 -- where area or walls, or the numbers of amoebots differ, the frame is not the same
 pub other_grounds : (start last : Config) → ((last.area ≡ start.area) × (last.walls ≡ start.walls) → ⊥) → ¬ HasSameFrame start last
@@ -107,6 +108,10 @@ runs_keep_frame f first last (e ∷ entries) run =
       size = rest.size ∙ step.size;
     }
 
-pub unwinding_undoes_runs : UnwindingUndoesRuns
+-- to go back to a place of a run comes to the world there, with the premises one by one
+pub unwinding_undoes_runs : (f : Shown → Verdict) (first last world : Config) (entries : List Entry) (place : ℕ) → IsValid first → Run f first entries last → place ≤ length entries → Run f first (take place entries) world → IsUnwound f first last entries place (Ok world)
 unwinding_undoes_runs f first last world entries place valid run within reached =
-    at_place world (runs_keep_frame f first last entries run) (runs_lead_back f first last world entries place valid run within reached)
+    at_place world (runs_keep_frame f first last entries run) (leads_back f first last world entries place valid run within reached)
+
+pub runs_are_undone : UnwindingUndoesRuns
+runs_are_undone f first last world entries place lead = unwinding_undoes_runs f first last world entries place lead.valid lead.run lead.within lead.there

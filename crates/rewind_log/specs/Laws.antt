@@ -63,16 +63,21 @@ BackOrLastNoStep =
     → place ≤ length entries
     → ((world : Config) × IsBack f last entries place world) ⊎ ((k : ℕ) × IsLastNoStep f last entries place k)
 
+-- entries are a run from a valid world to the last one, and so many of them lead to this world
+pub record LeadThere (f : Shown → Verdict) (first last : Config)
+    (entries : List Entry) (place : ℕ) (world : Config) : Type 0 where
+  pub valid : IsValid first
+  pub run : Run f first entries last
+  pub within : place ≤ length entries
+  pub there : Run f first (take place entries) world
+
 -- Rewinding is the inverse of the run.
 -- Where entries are a run, the world that so many of them lead to is the one at that place,
 -- seen from the last one.
 abbrev pub RunsLeadBack : Type 0
 RunsLeadBack =
     (f : Shown → Verdict) (first last world : Config) (entries : List Entry) (place : ℕ)
-    → IsValid first
-    → Run f first entries last
-    → place ≤ length entries
-    → Run f first (take place entries) world
+    → LeadThere f first last entries place world
     → IsBack f last entries place world
 
 -- Where there is a world at place 0, the entries are a run from it.
@@ -111,8 +116,5 @@ RunsKeepFrame =
 abbrev pub UnwindingUndoesRuns : Type 0
 UnwindingUndoesRuns =
     (f : Shown → Verdict) (first last world : Config) (entries : List Entry) (place : ℕ)
-    → IsValid first
-    → Run f first entries last
-    → place ≤ length entries
-    → Run f first (take place entries) world
+    → LeadThere f first last entries place world
     → IsUnwound f first last entries place (Ok world)

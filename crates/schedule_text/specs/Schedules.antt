@@ -5,7 +5,7 @@
 -- A number with which the steps pass 1,000,000 is TooMany.
 -- It may be a caller's, which counts as one step, or the one behind `times`.
 -- A caller that has no list is a BadId, and `times` 0 is a BadRange.
-use Rattle.std.specs.Prelude.{ℕ, ◌+◌, Bool, ◌==◌, if◌then◌else◌, List, replicate, Option, Some, codes}
+use Rattle.std.specs.Prelude.{ℕ, ◌+◌, ◌<◌, ◌≤◌, Bool, ◌==◌, if◌then◌else◌, List, replicate, Option, Some, codes}
 use Rattle.std.specs.List.{flat_map}
 use Rattle.text_tokens.specs.declared.refusal.RefusalKind.{RefusalKind}
 use Rattle.text_tokens.specs.declared.refusal.RefusalKind.TheVariants.{BadRange}
@@ -32,6 +32,10 @@ is_times = word (codes "times")
 pub record Stretch : Type 0 where
   pub caller : ℕ
   pub times : ℕ
+
+-- so many steps in a row, behind so many: one at least, and none too many
+abbrev pub AreTimes : ℕ → ℕ → Type 0
+AreTimes before times = (0 < times) × (before + times ≤ most_steps)
 
 abbrev pub stretch_of : ℕ → ℕ → Stretch
 stretch_of caller times = record { caller = caller; times = times }

@@ -4,7 +4,8 @@ ghost use Rattle.std.specs.Prelude.{◌<◌, IfOk};
 ghost use Rattle.text_tokens.specs.Steps.{Gives};
 ghost use Rattle.schedule_text.specs.Readers as reader;
 
-use text_tokens::{ReadRefusal, RefusalKind, TokenKind, Tokens, refused};
+use node_text::Reading;
+use text_tokens::{RefusalKind, TokenKind, Tokens, refused};
 
 /// A number below `known`, where fewer than `most` stand before it.
 /// One too many is `TooMany`, and any other number a `BadId`.
@@ -13,7 +14,7 @@ pub(crate) fn read_known(
     most: u32,
     known: u32,
     before: u32,
-) -> Result<u32, ReadRefusal>
+) -> Reading<u32>
     ensures reads { Gives (λ n. n) (reader.a_known most known before) tokens.old result tokens.new }
     ensures room { IfOk result (λ _. before < most) }
     ensures there { IfOk result (λ n. n < known) }

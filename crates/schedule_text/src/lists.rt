@@ -11,7 +11,7 @@ ghost use Rattle.schedule_text.specs.Readers as reader;
 
 use crate::known::read_known;
 use claim_core::Lists;
-use node_text::read_word;
+use node_text::{Reading, read_word};
 use std::alloc::Global;
 use text_tokens::{ReadRefusal, RefusalKind, TokenKind, Tokens, number_up_to, refused};
 
@@ -24,7 +24,7 @@ const MOST_IDS: u32 = 4096;
 
 /// The number of an amoebot, where there are so many, behind so many ids.
 #[tactic(auto, unfolding(crate::specs::Readers::an_id))]
-fn read_id(tokens: &mut Tokens<'_>, bots: u16, before: u32) -> Result<u16, ReadRefusal>
+fn read_id(tokens: &mut Tokens<'_>, bots: u16, before: u32) -> Reading<u16>
     ensures reads { Gives (λ n. n) (reader.an_id bots before) tokens.old result tokens.new }
     ensures room { IfOk result (λ _. before < most_ids) }
     ensures there { IfOk result (λ n. n < bots) }
@@ -33,7 +33,7 @@ fn read_id(tokens: &mut Tokens<'_>, bots: u16, before: u32) -> Result<u16, ReadR
 }
 
 /// One more id, if a number comes.
-fn more_id(tokens: &mut Tokens<'_>, bots: u16, before: u32) -> Result<Option<u16>, ReadRefusal>
+fn more_id(tokens: &mut Tokens<'_>, bots: u16, before: u32) -> Reading<Option<u16>>
     ensures reads { Gives (λ o. o)
         (another is_number (reader.an_id bots before)) tokens.old result tokens.new }
     ensures room { IfOk result (λ o. IfSome o (λ _. before < most_ids)) }
@@ -46,7 +46,7 @@ fn more_id(tokens: &mut Tokens<'_>, bots: u16, before: u32) -> Result<Option<u16
 }
 
 /// The ids of a list, at least one.
-fn read_ids(alloc: Global, tokens: &mut Tokens<'_>, bots: u16) -> Result<Vec<u16>, ReadRefusal>
+fn read_ids(alloc: Global, tokens: &mut Tokens<'_>, bots: u16) -> Reading<Vec<u16>>
     ensures reads { Gives (λ v. v.items) (reader.all_ids bots) tokens.old result tokens.new }
     ensures list { IfOk result (λ v. IsList v.items) }
     ensures there { IfOk result (λ v. All (λ id. id < bots) v.items) }
@@ -63,7 +63,7 @@ fn read_ids(alloc: Global, tokens: &mut Tokens<'_>, bots: u16) -> Result<Vec<u16
 
 /// The word of a list behind so many, for its line.
 #[tactic(auto, unfolding(crate::specs::Readers::list_word))]
-fn read_list_word(tokens: &mut Tokens<'_>, turns: u32, before: u32) -> Result<u32, ReadRefusal>
+fn read_list_word(tokens: &mut Tokens<'_>, turns: u32, before: u32) -> Reading<u32>
     requires turns { turns ≤ most_turns }
     requires before { before ≤ most_callers }
     ensures reads { Gives (λ line. line) (reader.list_word turns before) tokens.old result tokens.new }
@@ -85,7 +85,7 @@ fn read_list(
     bots: u16,
     turns: u32,
     before: u32,
-) -> Result<Vec<u16>, ReadRefusal>
+) -> Reading<Vec<u16>>
     requires turns { turns ≤ most_turns }
     requires before { before ≤ most_callers }
     ensures reads { Gives (λ v. v.items) (reader.a_list bots turns before) tokens.old result tokens.new }
@@ -104,7 +104,7 @@ fn more_list(
     bots: u16,
     turns: u32,
     before: u32,
-) -> Result<Option<Vec<u16>>, ReadRefusal>
+) -> Reading<Option<Vec<u16>>>
     requires turns { turns ≤ most_turns }
     requires before { before ≤ most_callers }
     ensures reads { Gives (λ o. option_map (λ v. v.items) o)
@@ -120,12 +120,7 @@ fn more_list(
 }
 
 /// The lists of all callers, who have so many turns each.
-fn read_all_lists(
-    alloc: Global,
-    tokens: &mut Tokens<'_>,
-    bots: u16,
-    turns: u32,
-) -> Result<Lists, ReadRefusal>
+fn read_all_lists(alloc: Global, tokens: &mut Tokens<'_>, bots: u16, turns: u32) -> Reading<Lists>
     requires { turns ≤ most_turns }
     ensures reads { Gives (λ l. l) (reader.all_lists bots turns) tokens.old result tokens.new }
     ensures there { IfOk result (HaveBots bots) }
@@ -145,7 +140,7 @@ fn read_all_lists(
 
 /// The turns of each caller.
 #[tactic(auto, unfolding(crate::specs::Readers::some_turns))]
-fn read_turns(tokens: &mut Tokens<'_>) -> Result<u32, ReadRefusal>
+fn read_turns(tokens: &mut Tokens<'_>) -> Reading<u32>
     ensures reads { Gives (λ n. n) reader.some_turns tokens.old result tokens.new }
     ensures few { IfOk result (λ n. n ≤ most_turns) }
 {
@@ -154,7 +149,7 @@ fn read_turns(tokens: &mut Tokens<'_>) -> Result<u32, ReadRefusal>
 }
 
 #[tactic(auto, unfolding(crate::specs::Readers::the_lists))]
-fn read_whole(alloc: Global, tokens: &mut Tokens<'_>, bots: u16) -> Result<Lists, ReadRefusal>
+fn read_whole(alloc: Global, tokens: &mut Tokens<'_>, bots: u16) -> Reading<Lists>
     ensures reads { Gives (λ l. l) (reader.the_lists bots) tokens.old result tokens.new }
     ensures there { IfOk result (HaveBots bots) }
 {
@@ -166,7 +161,7 @@ fn read_whole(alloc: Global, tokens: &mut Tokens<'_>, bots: u16) -> Result<Lists
 }
 
 /// Reads the section `lists` up to its `end`, of a world of so many amoebots.
-pub fn read_lists(alloc: Global, tokens: &mut Tokens<'_>, bots: u16) -> Result<Lists, ReadRefusal>
+pub fn read_lists(alloc: Global, tokens: &mut Tokens<'_>, bots: u16) -> Reading<Lists>
     ensures tells { TellsOf (spec.IsLists bots) (λ l. l) tokens.old result tokens.new }
     ensures reads { ReadsOf (spec.IsLists bots) (λ l. l) tokens.old result tokens.new }
     ensures few { IfOk result (λ l. length l.ids ≤ most_callers) }

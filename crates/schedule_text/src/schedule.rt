@@ -9,10 +9,10 @@ ghost use Rattle.schedule_text.specs.Readers as reader;
 ghost use Rattle.schedule_text.specs.Views as view;
 
 use crate::known::read_known;
-use node_text::read_word;
+use node_text::{Reading, read_word};
 use std::alloc::Global;
 use std::marker::Model;
-use text_tokens::{ReadRefusal, RefusalKind, TokenKind, Tokens, refused};
+use text_tokens::{RefusalKind, TokenKind, Tokens, refused};
 
 const MOST_STEPS: u32 = 1_000_000;
 
@@ -59,7 +59,7 @@ struct Stretch {
 
 /// One of so many callers, behind so many steps.
 #[tactic(auto, unfolding(crate::specs::Readers::a_caller))]
-fn read_caller(tokens: &mut Tokens<'_>, callers: u8, before: u32) -> Result<u8, ReadRefusal>
+fn read_caller(tokens: &mut Tokens<'_>, callers: u8, before: u32) -> Reading<u8>
     ensures reads { Gives (λ n. n) (reader.a_caller callers before) tokens.old result tokens.new }
     ensures room { IfOk result (λ _. before < spec.most_steps) }
     ensures there { IfOk result (λ n. n < callers) }
@@ -69,11 +69,10 @@ fn read_caller(tokens: &mut Tokens<'_>, callers: u8, before: u32) -> Result<u8, 
 
 /// How many steps a caller makes in a row, behind so many.
 #[tactic(auto, unfolding(crate::specs::Readers::number_of_times))]
-fn read_number_of_times(tokens: &mut Tokens<'_>, before: u32) -> Result<u32, ReadRefusal>
+fn read_number_of_times(tokens: &mut Tokens<'_>, before: u32) -> Reading<u32>
     requires { before ≤ spec.most_steps }
     ensures reads { Gives (λ n. n) (reader.number_of_times before) tokens.old result tokens.new }
-    ensures room { IfOk result (λ n. before + n ≤ spec.most_steps) }
-    ensures some { IfOk result (λ n. 0 < n) }
+    ensures times { IfOk result (spec.AreTimes before) }
 {
     let token = tokens.take_kind(TokenKind::Number)?;
     let times = tokens.number(&token);
@@ -87,22 +86,20 @@ fn read_number_of_times(tokens: &mut Tokens<'_>, before: u32) -> Result<u32, Rea
 }
 
 #[tactic(auto, unfolding(crate::specs::Readers::its_times))]
-fn read_times(tokens: &mut Tokens<'_>, before: u32) -> Result<u32, ReadRefusal>
+fn read_times(tokens: &mut Tokens<'_>, before: u32) -> Reading<u32>
     requires { before ≤ spec.most_steps }
     ensures reads { Gives (λ n. n) (reader.its_times before) tokens.old result tokens.new }
-    ensures room { IfOk result (λ n. before + n ≤ spec.most_steps) }
-    ensures some { IfOk result (λ n. 0 < n) }
+    ensures times { IfOk result (spec.AreTimes before) }
 {
     read_word(tokens, b"times")?;
     read_number_of_times(tokens, before)
 }
 
 /// One step, where it is not said how many.
-fn read_any_times(tokens: &mut Tokens<'_>, before: u32) -> Result<u32, ReadRefusal>
+fn read_any_times(tokens: &mut Tokens<'_>, before: u32) -> Reading<u32>
     requires { before < spec.most_steps }
     ensures reads { Gives (λ n. n) (reader.any_times before) tokens.old result tokens.new }
-    ensures room { IfOk result (λ n. before + n ≤ spec.most_steps) }
-    ensures some { IfOk result (λ n. 0 < n) }
+    ensures times { IfOk result (spec.AreTimes before) }
 {
     if !tokens.is_next(TokenKind::Word, b"times") {
         return Ok(1);
@@ -111,10 +108,9 @@ fn read_any_times(tokens: &mut Tokens<'_>, before: u32) -> Result<u32, ReadRefus
 }
 
 #[tactic(auto, unfolding(crate::specs::Readers::a_stretch))]
-fn read_stretch(tokens: &mut Tokens<'_>, callers: u8, before: u32) -> Result<Stretch, ReadRefusal>
+fn read_stretch(tokens: &mut Tokens<'_>, callers: u8, before: u32) -> Reading<Stretch>
     ensures reads { Gives view.stretch (reader.a_stretch callers before) tokens.old result tokens.new }
-    ensures room { IfOk result (λ s. before + s.times ≤ spec.most_steps) }
-    ensures some { IfOk result (λ s. 0 < s.times) }
+    ensures times { IfOk result (λ s. spec.AreTimes before s.times) }
     ensures there { IfOk result (λ s. s.caller < callers) }
 {
     let caller = read_caller(tokens, callers, before)?;
@@ -123,15 +119,10 @@ fn read_stretch(tokens: &mut Tokens<'_>, callers: u8, before: u32) -> Result<Str
 }
 
 /// One more stretch, if a number comes.
-fn more_stretch(
-    tokens: &mut Tokens<'_>,
-    callers: u8,
-    before: u32,
-) -> Result<Option<Stretch>, ReadRefusal>
+fn more_stretch(tokens: &mut Tokens<'_>, callers: u8, before: u32) -> Reading<Option<Stretch>>
     ensures reads { Gives (λ o. option_map view.stretch o)
         (another is_number (reader.a_stretch callers before)) tokens.old result tokens.new }
-    ensures room { IfOk result (λ o. IfSome o (λ s. before + s.times ≤ spec.most_steps)) }
-    ensures some { IfOk result (λ o. IfSome o (λ s. 0 < s.times)) }
+    ensures times { IfOk result (λ o. IfSome o (λ s. spec.AreTimes before s.times)) }
     ensures there { IfOk result (λ o. IfSome o (λ s. s.caller < callers)) }
 {
     if !tokens.is_next_kind(TokenKind::Number) {
@@ -141,7 +132,7 @@ fn more_stretch(
 }
 
 /// The caller of each step.
-fn read_steps(alloc: Global, tokens: &mut Tokens<'_>, callers: u8) -> Result<Vec<u8>, ReadRefusal>
+fn read_steps(alloc: Global, tokens: &mut Tokens<'_>, callers: u8) -> Reading<Vec<u8>>
     ensures reads { Gives (λ v. v.items) (reader.all_steps callers) tokens.old result tokens.new }
     ensures few { IfOk result (λ v. length v.items ≤ spec.most_steps) }
     ensures there { IfOk result (λ v. All (λ caller. caller < callers) v.items) }
@@ -156,7 +147,7 @@ fn read_steps(alloc: Global, tokens: &mut Tokens<'_>, callers: u8) -> Result<Vec
 }
 
 #[tactic(auto, unfolding(crate::specs::Readers::a_schedule))]
-fn read_whole(alloc: Global, tokens: &mut Tokens<'_>, callers: u8) -> Result<Schedule, ReadRefusal>
+fn read_whole(alloc: Global, tokens: &mut Tokens<'_>, callers: u8) -> Reading<Schedule>
     ensures reads { Gives (λ s. s) (reader.a_schedule callers) tokens.old result tokens.new }
     ensures there { IfOk result (λ s. All (λ caller. caller < callers) s) }
 {
@@ -167,11 +158,7 @@ fn read_whole(alloc: Global, tokens: &mut Tokens<'_>, callers: u8) -> Result<Sch
 }
 
 /// Reads the section `schedule` up to its `end`, of so many callers.
-pub fn read_schedule(
-    alloc: Global,
-    tokens: &mut Tokens<'_>,
-    callers: u8,
-) -> Result<Schedule, ReadRefusal>
+pub fn read_schedule(alloc: Global, tokens: &mut Tokens<'_>, callers: u8) -> Reading<Schedule>
     ensures tells { TellsOf (spec.IsSchedule callers) (λ s. s) tokens.old result tokens.new }
     ensures reads { ReadsOf (spec.IsSchedule callers) (λ s. s) tokens.old result tokens.new }
     ensures there { IfOk result (λ s. All (λ caller. caller < callers) s) }

@@ -13,7 +13,9 @@ ghost use Rattle.shape_text.specs.Readers as reader;
 ghost use Rattle.shape_text.specs.Views as view;
 
 use amoebot_state::{Bot, World, WorldRefusal};
-use node_text::{may_have_walls, read_bot, read_int, read_node, read_word, read_word_within};
+use node_text::{
+    Reading, may_have_walls, read_bot, read_int, read_node, read_word, read_word_within,
+};
 use std::alloc::Global;
 use text_tokens::{ReadRefusal, RefusalKind, TokenKind, Tokens, refused};
 use tri_lattice::{Area, Node};
@@ -57,7 +59,7 @@ pub(crate) enum Listed {
 
 /// A side of an area, from 1 to 128.
 #[tactic(auto, unfolding(crate::specs::Readers::a_side, text_tokens::specs::Reading::numeral))]
-fn read_side(tokens: &mut Tokens<'_>) -> Result<u16, ReadRefusal>
+fn read_side(tokens: &mut Tokens<'_>) -> Reading<u16>
     ensures reads { Gives (λ n. n) reader.a_side tokens.old result tokens.new }
     ensures low { IfOk result (λ n. 1 ≤ n) }
     ensures high { IfOk result (λ n. n ≤ most_side) }
@@ -71,7 +73,7 @@ fn read_side(tokens: &mut Tokens<'_>) -> Result<u16, ReadRefusal>
 }
 
 #[tactic(auto, unfolding(crate::specs::Readers::an_area))]
-fn read_area(tokens: &mut Tokens<'_>) -> Result<Area, ReadRefusal>
+fn read_area(tokens: &mut Tokens<'_>) -> Reading<Area>
     ensures { Gives (λ a. a) reader.an_area tokens.old result tokens.new }
 {
     let line = read_word(tokens, b"area")?;
@@ -84,7 +86,7 @@ fn read_area(tokens: &mut Tokens<'_>) -> Result<Area, ReadRefusal>
 
 /// A wall behind so many.
 #[tactic(auto, unfolding(crate::specs::Readers::a_wall_line, crate::specs::Readers::wall_word))]
-fn read_wall_line(tokens: &mut Tokens<'_>, before: u32) -> Result<WrittenWall, ReadRefusal>
+fn read_wall_line(tokens: &mut Tokens<'_>, before: u32) -> Reading<WrittenWall>
     ensures reads { Gives view.wall_view (reader.a_wall_line before) tokens.old result tokens.new }
     ensures room { IfOk result (λ _. before < most_walls) }
 {
@@ -94,7 +96,7 @@ fn read_wall_line(tokens: &mut Tokens<'_>, before: u32) -> Result<WrittenWall, R
 }
 
 /// One more wall, if one comes.
-fn more_wall(tokens: &mut Tokens<'_>, before: u32) -> Result<Option<WrittenWall>, ReadRefusal>
+fn more_wall(tokens: &mut Tokens<'_>, before: u32) -> Reading<Option<WrittenWall>>
     ensures reads { Gives (λ o. option_map view.wall_view o)
         (another spec.is_wall_word (reader.a_wall_line before))
         tokens.old result tokens.new }
@@ -107,7 +109,7 @@ fn more_wall(tokens: &mut Tokens<'_>, before: u32) -> Result<Option<WrittenWall>
 }
 
 /// The walls, where the text may have some.
-fn read_some_walls(alloc: Global, tokens: &mut Tokens<'_>) -> Result<Vec<WrittenWall>, ReadRefusal>
+fn read_some_walls(alloc: Global, tokens: &mut Tokens<'_>) -> Reading<Vec<WrittenWall>>
     ensures reads { Gives (λ v. map view.wall_view v.items)
         (reader.all_walls true) tokens.old result tokens.new }
     ensures few { IfOk result (λ v. vec_len v ≤ most_walls) }
@@ -122,11 +124,7 @@ fn read_some_walls(alloc: Global, tokens: &mut Tokens<'_>) -> Result<Vec<Written
 }
 
 /// The walls of a text of this version.
-fn read_walls(
-    alloc: Global,
-    tokens: &mut Tokens<'_>,
-    version: u8,
-) -> Result<Vec<WrittenWall>, ReadRefusal>
+fn read_walls(alloc: Global, tokens: &mut Tokens<'_>, version: u8) -> Reading<Vec<WrittenWall>>
     ensures reads { Gives (λ v. map view.wall_view v.items)
         (reader.all_walls (part.may_have_walls version)) tokens.old result tokens.new }
     ensures few { IfOk result (λ v. vec_len v ≤ most_walls) }
@@ -140,7 +138,7 @@ fn read_walls(
 
 /// An amoebot behind so many.
 #[tactic(auto, unfolding(crate::specs::Readers::a_bot_line, crate::specs::Readers::bot_word))]
-fn read_bot_line(tokens: &mut Tokens<'_>, vars: u8, before: u32) -> Result<WrittenBot, ReadRefusal>
+fn read_bot_line(tokens: &mut Tokens<'_>, vars: u8, before: u32) -> Reading<WrittenBot>
     requires { vars ≤ most_vars }
     ensures reads { Gives view.bot_view (reader.a_bot_line vars before) tokens.old result tokens.new }
     ensures room { IfOk result (λ _. before < most_bots) }
@@ -152,11 +150,7 @@ fn read_bot_line(tokens: &mut Tokens<'_>, vars: u8, before: u32) -> Result<Writt
 }
 
 /// One more amoebot, if one comes.
-fn more_bot(
-    tokens: &mut Tokens<'_>,
-    vars: u8,
-    before: u32,
-) -> Result<Option<WrittenBot>, ReadRefusal>
+fn more_bot(tokens: &mut Tokens<'_>, vars: u8, before: u32) -> Reading<Option<WrittenBot>>
     requires { vars ≤ most_vars }
     ensures reads { Gives (λ o. option_map view.bot_view o)
         (another spec.is_bot (reader.a_bot_line vars before))
@@ -170,11 +164,7 @@ fn more_bot(
     Ok(Some(read_bot_line(tokens, vars, before)?))
 }
 
-fn read_bots(
-    alloc: Global,
-    tokens: &mut Tokens<'_>,
-    vars: u8,
-) -> Result<Vec<WrittenBot>, ReadRefusal>
+fn read_bots(alloc: Global, tokens: &mut Tokens<'_>, vars: u8) -> Reading<Vec<WrittenBot>>
     requires { vars ≤ most_vars }
     ensures reads { Gives (λ v. map view.bot_view v.items)
         (reader.all_bots vars) tokens.old result tokens.new }
@@ -196,7 +186,7 @@ fn read_drawing(
     tokens: &mut Tokens<'_>,
     version: u8,
     vars: u8,
-) -> Result<WrittenShape, ReadRefusal>
+) -> Reading<WrittenShape>
     requires { vars ≤ most_vars }
     ensures reads { Gives view.shape
         (reader.a_drawing (part.may_have_walls version) vars) tokens.old result tokens.new }
@@ -218,7 +208,7 @@ fn read_written(
     text: &[u8],
     version: u8,
     vars: u8,
-) -> Result<WrittenShape, ReadRefusal>
+) -> Reading<WrittenShape>
     requires { vars ≤ most_vars }
     ensures reads { Gives view.shape
         (reader.a_written_shape (part.may_have_walls version) text.now vars) tokens.old result tokens.new }
@@ -233,7 +223,7 @@ fn read_written(
 }
 
 /// The walls, without their lines.
-fn walls_of(alloc: Global, written: &[WrittenWall]) -> Result<Vec<Node>, ReadRefusal>
+fn walls_of(alloc: Global, written: &[WrittenWall]) -> Reading<Vec<Node>>
     ensures value { IfOk result (λ walls. walls.items ≡ map (λ w. w.node) written.now) }
     ensures err { IfErr result (λ e. e ≡ NoMemory) }
 {
@@ -245,7 +235,7 @@ fn walls_of(alloc: Global, written: &[WrittenWall]) -> Result<Vec<Node>, ReadRef
 }
 
 /// The amoebots, without their lines.
-fn bots_of(alloc: Global, written: &[WrittenBot]) -> Result<Vec<Bot>, ReadRefusal>
+fn bots_of(alloc: Global, written: &[WrittenBot]) -> Reading<Vec<Bot>>
     ensures value { IfOk result (λ bots. bots.items ≡ map (λ b. b.bot) written.now) }
     ensures err { IfErr result (λ e. e ≡ NoMemory) }
 {
@@ -290,7 +280,7 @@ fn refusal_of(refusal: WorldRefusal, walls: &[WrittenWall], bots: &[WrittenBot])
 
 /// The world that a shape stands for, or the first rule that it breaks: first of the walls,
 /// then by rising id.
-fn world_of(alloc: Global, written: &WrittenShape, maxes: [u8; 8]) -> Result<World, ReadRefusal>
+fn world_of(alloc: Global, written: &WrittenShape, maxes: [u8; 8]) -> Reading<World>
     requires few_walls { vec_len written.now.walls ≤ most_walls }
     requires few { vec_len written.now.bots ≤ most_bots }
     requires plain { All (λ b. IsBotInRange b.bot) written.now.bots.items }
@@ -320,7 +310,7 @@ fn read_under(
     version: u8,
     vars: u8,
     maxes: [u8; 8],
-) -> Result<World, ReadRefusal>
+) -> Reading<World>
     requires { vars ≤ most_vars }
     ensures reads { Gives (λ c. c)
         (reader.shape_under (part.may_have_walls version) text.now vars maxes) tokens.old result tokens.new }
@@ -339,7 +329,7 @@ pub fn read_shape(
     version: u8,
     vars: u8,
     maxes: [u8; 8],
-) -> Result<World, ReadRefusal>
+) -> Reading<World>
     requires { vars ≤ most_vars }
     ensures tells { TellsOf (spec.IsShape version vars maxes) (λ c. c) tokens.old result tokens.new }
     ensures reads { ReadsOf (spec.IsShape version vars maxes) (λ c. c) tokens.old result tokens.new }
@@ -355,7 +345,7 @@ pub fn read_final(
     version: u8,
     vars: u8,
     maxes: [u8; 8],
-) -> Result<World, ReadRefusal>
+) -> Reading<World>
     requires { vars ≤ most_vars }
     ensures tells { TellsOf (spec.IsFinal version vars maxes) (λ c. c) tokens.old result tokens.new }
     ensures reads { ReadsOf (spec.IsFinal version vars maxes) (λ c. c) tokens.old result tokens.new }

@@ -5,19 +5,14 @@ use Rattle.std.specs.declared.alloc.Global.{Global}
 use Rattle.amoebot_state.specs.declared.verdict.Entry.{Entry}
 use Rattle.amoebot_state.specs.Limits.{most_pairs}
 use Rattle.amoebot_state.specs.Pairs.{CellChange, Triples, triples_alike}
+use Rattle.amoebot_state.specs.Steps.{entry_of}
 use Rattle.ticket_commit.specs.declared.own.Head.{Head}
 
 -- the entry of a head, whose patch is the cells from its start to its end
 abbrev pub entry_of_head : Triples → Head → Entry
 entry_of_head triples h =
-    record {
-      caller = h.caller;
-      turn = h.turn;
-      bot = h.bot;
-      action = h.action;
-      moved = h.moved;
-      patch = slice_range triples h.start h.end;
-    }
+    entry_of h.caller h.turn h.bot
+    (record { action = h.action; moved = h.moved; patch = slice_range triples h.start h.end })
 
 -- the entries of heads, each with its place
 abbrev pub unpacked : List Head → Triples → List (ℕ × Entry)

@@ -1,5 +1,5 @@
-use Rattle.rewind_log.proofs.Unwound.{unwinding_undoes_runs}
+use Rattle.rewind_log.proofs.Unwound.{runs_are_undone}
 use Rattle.rewind_log.proofs.laws.unwinding_undoes_runs.Goals as goal
 
 pub returns : goal.returns
-returns c = unwinding_undoes_runs
+returns c = runs_are_undone

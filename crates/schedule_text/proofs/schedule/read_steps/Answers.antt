@@ -1,4 +1,4 @@
-use Rattle.std.proofs.Common.{◌≡◌, ◌<◌, ◌≤◌, ◌+◌, ◌-◌, ◌++◌, ◌∷◌, [], ◌∙◌, ℕ, List, length, take, replicate, vec_len, refl, sym, ap, subst, arith}
+use Rattle.std.proofs.Common.{◌≡◌, ◌<◌, ◌+◌, ◌-◌, ◌++◌, ◌∷◌, [], ◌∙◌, ℕ, List, length, take, replicate, vec_len, refl, sym, ap, subst, arith}
 use Rattle.std.specs.List.{All}
 use Rattle.std.proofs.lemmas.Grind.{flat_map-append}
 use Rattle.std.proofs.lemmas.List.{append-nil, take_all}
@@ -8,7 +8,7 @@ use Rattle.text_tokens.specs.Reading.{pure, is_number}
 use Rattle.text_tokens.proofs.StepsLemmas.{fails, on_made}
 use Rattle.text_tokens.proofs.LoopLemmas.{loop_begins, loop_goes_on, loop_is_over, loop_fails}
 use Rattle.node_text.specs.Parts.{is_end}
-use Rattle.schedule_text.specs.Schedules.{Stretch, most_steps, more_steps, steps_in, steps_of, IsStretch}
+use Rattle.schedule_text.specs.Schedules.{Stretch, AreTimes, more_steps, steps_in, steps_of, IsStretch}
 use Rattle.schedule_text.specs.Readers.{a_stretch, stretches_from, all_steps}
 use Rattle.schedule_text.specs.Views as view
 use Rattle.schedule_text.proofs.ScheduleLaws.{no_times, stretch_elements}
@@ -55,7 +55,7 @@ loop-steps-preserved c =
     let was = c.loop-steps.invariant.1 in
     let s = view.stretch c.in-Some.stretch in
     let next = rw c.in-Some.is at c.in_ok-stretch.ensures.reads in
-    let room : c.loop-steps.before + s.times ≤ most_steps = rw c.in-Some.is at c.in_ok-stretch.ensures.room in
+    let times : AreTimes c.loop-steps.before s.times = rw c.in-Some.is at c.in_ok-stretch.ensures.times in
     let there : s.caller < callers = rw c.in-Some.is at c.in_ok-stretch.ensures.there in
     let len : vec_len c.loop-steps.steps ≡ c.loop-steps.before = omega (arith, was.same) in
     let are : c.resize.new.self.items ≡ c.loop-steps.steps.items ++ steps_in s = filled c.loop-steps.steps.items c.resize.new.self.items (vec_len c.loop-steps.steps) c.loop-steps.before s.times s.caller was.same len c.in_ok-resize.ensures.items in
@@ -65,7 +65,7 @@ loop-steps-preserved c =
         reads = loop_goes_on (IsStretch callers) (a_stretch callers) more_steps is_number no_times is_end (stretch_elements callers) (stretches_from callers 0) c.args.tokens.now found c.loop-steps.before c.loop-steps.tokens was.reads s c.more_stretch.new.tokens next (found ++ s ∷ []) refl;
         are = are ∙ ap (λ (front : List ℕ). front ++ steps_in s) was.are ∙ sym (one_stretch_more found s);
         same = omega (arith, size);
-        few = room;
+        few = times.1;
         there = subst (λ (steps : List ℕ). All (λ caller. caller < callers) steps) (sym are) (All-append (λ (caller : ℕ). caller < callers) c.loop-steps.steps.items (steps_in s) was.there (All-replicate (λ (caller : ℕ). caller < callers) s.times s.caller there));
       },
     )
