@@ -19,6 +19,7 @@ pub mod MarkLemmas
 pub mod Measures
 pub mod NumberWords
 pub mod Outcomes
+pub mod OutcomeEnds
 pub mod OwedLemmas
 pub mod OwedTexts
 pub mod PatchLemmas
@@ -42,6 +43,7 @@ pub mod SomethingOwedLemmas
 pub mod SyntaxLemmas
 pub mod TaskLemmas
 pub mod ToldEntries
+pub mod TurnMakers
 pub mod WordsLemmas
 pub mod WorkExampleLemmas
 pub mod Worlds
