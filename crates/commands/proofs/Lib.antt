@@ -3,6 +3,7 @@ pub mod Bodies
 pub mod Canonical
 pub mod CommandDocuments
 pub mod CommandLemmas
+pub mod CommandRows
 pub mod CountedRounds
 pub mod DocumentWorlds
 pub mod ElectDocuments

@@ -9,7 +9,7 @@ use Rattle.claim_core.specs.Turns.{CallerLists, HaveBots}
 use Rattle.shape_files.specs.Documents.{Contents, bots_of}
 use Rattle.shape_files.specs.Fitting.{FitTogether}
 use Rattle.shipped_programs.specs.declared.shipped.Shipped.{Shipped}
-use Rattle.commands.specs.declared.words.Command.TheVariants.{Document, Show}
+use Rattle.commands.specs.declared.words.Command.TheVariants.{Show}
 use Rattle.commands.specs.declared.words.DocumentCommand.{DocumentCommand}
 use Rattle.commands.specs.declared.answer.Answer.{Answer}
 use Rattle.commands.specs.declared.answer.Task.TheVariants as task
