@@ -1,5 +1,5 @@
 -- Which calls have turns, and in which of the two places.
-use Rattle.std.proofs.Common.{◌≡◌, ℕ, List, Option, Some, None, refl, sym, subst}
+use Rattle.std.proofs.Common.{◌≡◌, ◌∙◌, inl, inr, ℕ, List, Option, Some, None, refl, sym, subst}
 use Rattle.std.proofs.lemmas.Bool.{false≢true}
 use Rattle.claim_core.specs.declared.report.Report.{Report}
 use Rattle.outer_io.specs.declared.writing.Sink.{Ghosts as SinkOf}
@@ -12,7 +12,7 @@ use Rattle.commands.specs.declared.answer.Maker.TheVariants as maker
 use Rattle.commands.specs.declared.status.Status.{Status}
 use Rattle.commands.specs.declared.status.Status.TheVariants as status
 use Rattle.commands.specs.Answers.{turn_maker}
-use Rattle.commands.specs.Commands.{AreTickets, AreWorkers, HaveWorkers, IsTicketed, IsWorked, NeedsWorkers, TurnMaker, maker_of, no_maker, the_schedule, the_workers, the_tickets}
+use Rattle.commands.specs.Commands.{IsTicketed, IsWorked, NeedsWorkers, maker_of, the_workers, the_tickets}
 use Rattle.amoebot_run.specs.declared.ended.Ended.{Ended}
 use Rattle.amoebot_run.specs.declared.making.MadeTurns.{MadeTurns}
 use Rattle.amoebot_run.specs.declared.making.MadeTurns.TheVariants as turned
@@ -36,36 +36,27 @@ no_turns c s report never = record { exactly = ((λ some. absurd (false≢true s
 no_tickets : (c : Option Command) (s : Status) (report : Option Report) → (s ≡ status.Done → IsTicketed c → ⊥) → HasTickets c s report None
 no_tickets c s report never = record { exactly = ((λ some. absurd (false≢true some)), λ both. absurd (never both.0 both.1)); marked = tt }
 
-workers_work : (m : TurnMaker) → AreWorkers m → HaveWorkers m
-workers_work no_maker are = are
-workers_work the_schedule are = are
-workers_work the_workers are = are
-workers_work the_tickets are = tt
-
-tickets_work : (m : TurnMaker) → AreTickets m → HaveWorkers m
-tickets_work no_maker are = are
-tickets_work the_schedule are = are
-tickets_work the_workers are = tt
-tickets_work the_tickets are = are
-
 -- a call that is not done, or whose command needs no workers, has none
 pub none_told : (c : Option Command) (s : Status) (report : Option Report) → (s ≡ status.Done → NeedsWorkers c → ⊥) → HasBoth c s report None None
 none_told c s report never = record {
-  turns_there = no_turns c s report (λ done are. never done (workers_work (maker_of c) are));
-  tickets_there = no_tickets c s report (λ done are. never done (tickets_work (maker_of c) are));
+  turns_there = no_turns c s report (λ done are. never done (inl are));
+  tickets_there = no_tickets c s report (λ done are. never done (inr are));
 }
 
 -- ---- calls that have some
 
+workers_or_tickets : the_workers ≡ the_tickets → ⊥
+workers_or_tickets e = cc
+
 -- what workers have made has them where it has to
 pub told_by_maker : (c : Option Command) (m : Maker) (report : Report) (turns : MadeTurns) → maker_of c ≡ turn_maker m → HasTold m report.turns turns → HasBoth c status.Done (Some report) (journal_turns turns) (ticket_turns turns)
 told_by_maker c maker.Workers report (turned.Journal turns) its marked = record {
-  turns_there = record { exactly = ((λ some. (refl, subst AreWorkers (sym its) tt)), λ both. refl); marked = (report, refl, marked) };
-  tickets_there = no_tickets c status.Done (Some report) (λ done are. subst AreTickets its are);
+  turns_there = record { exactly = ((λ some. (refl, its)), λ both. refl); marked = (report, refl, marked) };
+  tickets_there = no_tickets c status.Done (Some report) (λ done are. workers_or_tickets (sym its ∙ are));
 }
 told_by_maker c maker.Tickets report (turned.Tickets tickets) its marked = record {
-  turns_there = no_turns c status.Done (Some report) (λ done are. subst AreWorkers its are);
-  tickets_there = record { exactly = ((λ some. (refl, subst AreTickets (sym its) tt)), λ both. refl); marked = (report, refl, marked) };
+  turns_there = no_turns c status.Done (Some report) (λ done are. workers_or_tickets (sym are ∙ its));
+  tickets_there = record { exactly = ((λ some. (refl, its)), λ both. refl); marked = (report, refl, marked) };
 }
 told_by_maker c maker.Workers report (turned.Tickets tickets) its marked = absurd marked
 told_by_maker c maker.Tickets report (turned.Journal turns) its marked = absurd marked

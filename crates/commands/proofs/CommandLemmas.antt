@@ -1,6 +1,6 @@
 -- What `clap` makes of words that do not begin with `-` is the command that they are.
 use Rattle.std.proofs.Common.{◌≡◌, ◌≢◌, inl, inr, List, [], ◌∷◌, Bool, true, false, Option, Some, None, codes, eqb-true, true≢false, refl, ap, sym, subst, ◌∙◌}
-use Rattle.std.specs.Prelude.{◌==◌, option_and_then}
+use Rattle.std.specs.Prelude.{◌==◌, ◌++◌, if◌then◌else◌, map, not, option_and_then, option_map}
 use Rattle.std.specs.List.{find, list_all, list_any}
 use Rattle.std.specs.Char.{is_ascii_digit}
 use Rattle.std.specs.Str.{bytes_eq}
@@ -17,11 +17,11 @@ use Rattle.clap.proofs.OnLiterals.{clap_on_literals}
 use Rattle.shipped_programs.specs.declared.shipped.Shipped.TheVariants.{Hexagon, Erosion, Line}
 use Rattle.commands.specs.declared.words.Command.{Command}
 use Rattle.commands.specs.declared.words.DocumentCommand.{DocumentCommand}
-use Rattle.commands.specs.declared.words.Command.TheVariants.{Sample}
-use Rattle.commands.specs.declared.words.DocumentCommand.TheVariants.{Run, Interleave, Replay, Check, Measure, Renew, Rewind, Rounds, Elect, Tickets}
-use Rattle.commands.specs.Words.{AreWordsOf, command_of, is_one_word, of_two_words, numbered_by, rewind_to, shipped, show_in, word_of}
+use Rattle.commands.specs.declared.words.Command.TheVariants.{Document, Sample}
+use Rattle.commands.specs.Words.{AreWordsOf, command_of, document_in, documents, is_one_word, of_two_words, numbered_by, rewind_to, shipped, show_in, word_of}
 use Rattle.commands.specs.Syntax.{begins_with_dash, of_subcommand, words_syntax}
-use Rattle.commands.proofs.WordsLemmas.{same_word, command_is_its_words}
+use Rattle.commands.proofs.CommandRows.{row_is}
+use Rattle.commands.proofs.WordsLemmas.{by_choice, same_word, command_is_its_words, tested_alone}
 use Rattle.commands.proofs.SyntaxLemmas.{argument, fault_in, is_free_syntax, is_simple_syntax, leaf, names, none_wanted, one_read, one_too_many, one_wanted, read_in, strange_word}
 
 -- a parse fails by no fault and gives the command, or it fails and they are no command
@@ -38,53 +38,96 @@ pub data First (word : Text) : Type 0 where
   rewind : word ≡ codes "rewind" → First word
   other : subcommand_met names idle word ≡ None → ((words : List Text) → command_of (word ∷ words) ≡ None) → First word
 
-module _ (word : Text) (run : bytes_eq (codes "run") word ≡ false) (interleave : bytes_eq (codes "interleave") word ≡ false) (replay : bytes_eq (codes "replay") word ≡ false)
-    (check : bytes_eq (codes "check") word ≡ false) (measure : bytes_eq (codes "measure") word ≡ false) (renew : bytes_eq (codes "renew") word ≡ false)
-    (rounds : bytes_eq (codes "rounds") word ≡ false) (elect : bytes_eq (codes "elect") word ≡ false) (tickets : bytes_eq (codes "tickets") word ≡ false)
-    (is_no_show : bytes_eq (codes "show") word ≡ false) (is_no_sample : bytes_eq (codes "sample") word ≡ false) (is_no_rewind : bytes_eq (codes "rewind") word ≡ false) where
-  names_none : subcommand_met names idle word ≡ None
-  names_none = rw (run, interleave, replay, check, measure, renew, rounds, elect, tickets, is_no_show, is_no_sample, is_no_rewind) refl
+-- a word is that of one of some commands, or of none
+data IsNamed (cs : List DocumentCommand) (word : Text) : Type 0 where
+  here : (c : DocumentCommand) → is_one_word c ≡ true → word ≡ word_of c → IsNamed cs word
+  nowhere : document_in cs word ≡ None → IsNamed cs word
 
-  begins_none : (words : List Text) → command_of (word ∷ words) ≡ None
+is_named : (cs : List DocumentCommand) → list_all is_one_word cs ≡ true → (word : Text) → IsNamed cs word
+is_named [] ones word = nowhere refl
+is_named (d ∷ cs) ones word =
+    let parts = and_parts (is_one_word d) (list_all is_one_word cs) ones in
+    elim (cases_Bool (bytes_eq (word_of d) word)) [
+      | inl is ↦ here d parts.0 (sym (same_word (word_of d) word is))
+      | inr passed ↦ elim (is_named cs parts.1 word) [
+        | here c one is ↦ here c one is
+        | nowhere none ↦ nowhere (ap (λ (b : Bool). if b then Some (Document d) else document_in cs word) passed ∙ none)
+      ]
+    ]
+
+-- ---- the subcommands
+
+-- that of a command whose word stands alone, and those with an argument
+abbrev leaf_of : DocumentCommand → Shape
+leaf_of c = leaf (word_of c) []
+
+abbrev with_arguments : List Shape
+with_arguments = leaf (codes "show") (argument (codes "NAME") ∷ []) ∷ leaf (codes "sample") (argument (codes "NUMBER") ∷ []) ∷ leaf (codes "rewind") (argument (codes "NUMBER") ∷ []) ∷ []
+
+subs_are : (built words_syntax).subs ≡ map leaf_of documents ++ with_arguments
+subs_are = refl
+
+-- the first of some that answers to a word
+abbrev answering : Text → List Shape → Option Shape
+answering word subs = find (λ (s : Shape). answers_to word (label_of s)) subs
+
+answering_label : (word : Text) (subs : List Shape) → find (answers_to word) (map label_of subs) ≡ option_map label_of (answering word subs)
+answering_label word [] = refl
+answering_label word (s ∷ subs) = elim (cases_Bool (answers_to word (label_of s))) [
+  | inl is ↦ rw is refl
+  | inr is ↦ rw is (answering_label word subs)
+]
+
+-- the word of a command finds that command's
+one_answers : (cs : List DocumentCommand) (others : List Shape) (word : Text) (c : DocumentCommand) → document_in cs word ≡ Some (Document c) → answering word (map leaf_of cs ++ others) ≡ Some (leaf_of c)
+one_answers [] others word c e = absurd (cc)
+one_answers (d ∷ cs) others word c e = elim (by_choice (bytes_eq (word_of d) word) (Some (Document d)) (document_in cs word) (Document c) e) [
+  | inl by ↦ let same : d ≡ c = cc in rw by.0 (ap (λ (x : DocumentCommand). Some (leaf_of x)) same)
+  | inr by ↦ rw by.0 (one_answers cs others word c by.1)
+]
+
+-- and a word that is none of theirs finds another subcommand, or none
+others_answer : (cs : List DocumentCommand) (others : List Shape) (word : Text) → document_in cs word ≡ None → answering word (map leaf_of cs ++ others) ≡ answering word others
+others_answer [] others word none = refl
+others_answer (d ∷ cs) others word none = elim (cases_Bool (bytes_eq (word_of d) word)) [
+  | inl is ↦ absurd (let some : Some (Document d) ≡ None = sym (ap (λ (b : Bool). if b then Some (Document d) else document_in cs word) is) ∙ none in cc)
+  | inr is ↦ rw is (others_answer cs others word (sym (ap (λ (b : Bool). if b then Some (Document d) else document_in cs word) is) ∙ none))
+]
+
+-- the name of what is found
+met_by : (word : Text) (o : Option Shape) → answering word (built words_syntax).subs ≡ o → subcommand_met names idle word ≡ option_map (λ (s : Shape). s.name) o
+met_by word o e = ap (option_map (λ (label : Text × List Text). label.0)) (answering_label word (built words_syntax).subs ∙ ap (option_map label_of) e) ∙ twice o
+  where
+    twice : (o : Option Shape) → option_map (λ (label : Text × List Text). label.0) (option_map label_of o) ≡ option_map (λ (s : Shape). s.name) o
+    twice None = refl
+    twice (Some s) = refl
+
+module _ (word : Text) (no_show : bytes_eq (codes "show") word ≡ false) (no_sample : bytes_eq (codes "sample") word ≡ false) (no_rewind : bytes_eq (codes "rewind") word ≡ false) where
+  names_none : document_in documents word ≡ None → subcommand_met names idle word ≡ None
+  names_none none = met_by word None (ap (answering word) subs_are ∙ others_answer documents with_arguments word none ∙ rw (no_show, no_sample, no_rewind) refl)
+
+  read_alone : (rows : List Row) → of_subcommand (Some (word, rows)) ≡ document_in documents word
+  read_alone rows = rw (no_show, no_sample, no_rewind) refl
+
+  none_of_two : (second : Text) → of_two_words word second ≡ None
   unfolding of_two_words
-  begins_none [] = rw (run, interleave, replay, check, measure, renew, rounds, elect, tickets) refl
-  begins_none (x ∷ []) = rw (is_no_show, is_no_sample, is_no_rewind) refl
-  begins_none (x ∷ y ∷ words) = refl
+  none_of_two second = rw (no_show, no_sample, no_rewind) refl
+
+  begins_none : document_in documents word ≡ None → (words : List Text) → command_of (word ∷ words) ≡ None
+  begins_none none [] = none
+  begins_none none (x ∷ []) = none_of_two x
+  begins_none none (x ∷ y ∷ words) = refl
 
 first_of_words : (word : Text) → First word
-first_of_words word = elim (cases_Bool (bytes_eq (codes "run") word)) [
-  | inl e ↦ document Run refl (sym (same_word (codes "run") word e))
-  | inr run ↦ elim (cases_Bool (bytes_eq (codes "interleave") word)) [
-    | inl e ↦ document Interleave refl (sym (same_word (codes "interleave") word e))
-    | inr interleave ↦ elim (cases_Bool (bytes_eq (codes "replay") word)) [
-      | inl e ↦ document Replay refl (sym (same_word (codes "replay") word e))
-      | inr replay ↦ elim (cases_Bool (bytes_eq (codes "check") word)) [
-        | inl e ↦ document Check refl (sym (same_word (codes "check") word e))
-        | inr check ↦ elim (cases_Bool (bytes_eq (codes "measure") word)) [
-          | inl e ↦ document Measure refl (sym (same_word (codes "measure") word e))
-          | inr measure ↦ elim (cases_Bool (bytes_eq (codes "renew") word)) [
-            | inl e ↦ document Renew refl (sym (same_word (codes "renew") word e))
-            | inr renew ↦ elim (cases_Bool (bytes_eq (codes "rounds") word)) [
-              | inl e ↦ document Rounds refl (sym (same_word (codes "rounds") word e))
-              | inr rounds ↦ elim (cases_Bool (bytes_eq (codes "elect") word)) [
-                | inl e ↦ document Elect refl (sym (same_word (codes "elect") word e))
-                | inr elect ↦ elim (cases_Bool (bytes_eq (codes "tickets") word)) [
-                  | inl e ↦ document Tickets refl (sym (same_word (codes "tickets") word e))
-                  | inr tickets ↦ elim (cases_Bool (bytes_eq (codes "show") word)) [
-                    | inl e ↦ show (sym (same_word (codes "show") word e))
-                    | inr is_no_show ↦ elim (cases_Bool (bytes_eq (codes "sample") word)) [
-                      | inl e ↦ sample (sym (same_word (codes "sample") word e))
-                      | inr is_no_sample ↦ elim (cases_Bool (bytes_eq (codes "rewind") word)) [
-                        | inl e ↦ rewind (sym (same_word (codes "rewind") word e))
-                        | inr is_no_rewind ↦ other (names_none word run interleave replay check measure renew rounds elect tickets is_no_show is_no_sample is_no_rewind) (begins_none word run interleave replay check measure renew rounds elect tickets is_no_show is_no_sample is_no_rewind)
-                      ]
-                    ]
-                  ]
-                ]
-              ]
-            ]
-          ]
-        ]
+first_of_words word = elim (is_named documents refl word) [
+  | here c one is ↦ document c one is
+  | nowhere none ↦ elim (cases_Bool (bytes_eq (codes "show") word)) [
+    | inl e ↦ show (sym (same_word (codes "show") word e))
+    | inr no_show ↦ elim (cases_Bool (bytes_eq (codes "sample") word)) [
+      | inl e ↦ sample (sym (same_word (codes "sample") word e))
+      | inr no_sample ↦ elim (cases_Bool (bytes_eq (codes "rewind") word)) [
+        | inl e ↦ rewind (sym (same_word (codes "rewind") word e))
+        | inr no_rewind ↦ other (names_none word no_show no_sample no_rewind none) (begins_none word no_show no_sample no_rewind none)
       ]
     ]
   ]
@@ -98,57 +141,55 @@ fault = fault_of words_syntax
 abbrev read : List Text → Option (Text × List Row)
 read = subcommand_of words_syntax
 
-document_in_words : (c : DocumentCommand) → is_one_word c ≡ true → (rest : List Text) → fault (word_of c ∷ rest) ≡ or_else (level_fault (leaf (word_of c) []) [] nothing_held rest false []) []
-document_in_words Run one rest = fault_in (codes "run") (leaf (codes "run") []) refl refl refl rest
-document_in_words Interleave one rest = fault_in (codes "interleave") (leaf (codes "interleave") []) refl refl refl rest
-document_in_words Replay one rest = fault_in (codes "replay") (leaf (codes "replay") []) refl refl refl rest
-document_in_words Check one rest = fault_in (codes "check") (leaf (codes "check") []) refl refl refl rest
-document_in_words Measure one rest = fault_in (codes "measure") (leaf (codes "measure") []) refl refl refl rest
-document_in_words Renew one rest = fault_in (codes "renew") (leaf (codes "renew") []) refl refl refl rest
-document_in_words (Rewind place) one rest = absurd (false≢true one)
-document_in_words Rounds one rest = fault_in (codes "rounds") (leaf (codes "rounds") []) refl refl refl rest
-document_in_words Elect one rest = fault_in (codes "elect") (leaf (codes "elect") []) refl refl refl rest
-document_in_words Tickets one rest = fault_in (codes "tickets") (leaf (codes "tickets") []) refl refl refl rest
+not_so : (b : Bool) → not b ≡ true → b ≡ false
+not_so true e = absurd (false≢true e)
+not_so false e = refl
 
-document_read : (c : DocumentCommand) → is_one_word c ≡ true → of_subcommand (read (word_of c ∷ [])) ≡ command_of (word_of c ∷ [])
+-- with no words behind it a subcommand without an argument is not at fault
+leaf_well : (name : Text) → or_else (level_fault (leaf name []) [] nothing_held [] false []) [] ≡ []
 unfolding clap_on_literals
-document_read Run one = refl
-document_read Interleave one = refl
-document_read Replay one = refl
-document_read Check one = refl
-document_read Measure one = refl
-document_read Renew one = refl
-document_read (Rewind place) one = absurd (false≢true one)
-document_read Rounds one = refl
-document_read Elect one = refl
-document_read Tickets one = refl
+leaf_well name = refl
 
-document_well : (c : DocumentCommand) → is_one_word c ≡ true → fault (word_of c ∷ []) ≡ []
-unfolding clap_on_literals
-document_well Run one = refl
-document_well Interleave one = refl
-document_well Replay one = refl
-document_well Check one = refl
-document_well Measure one = refl
-document_well Renew one = refl
-document_well (Rewind place) one = absurd (false≢true one)
-document_well Rounds one = refl
-document_well Elect one = refl
-document_well Tickets one = refl
+-- a command whose word stands alone
+module _ (c : DocumentCommand) (one : is_one_word c ≡ true) where
+  is_other : (test : DocumentCommand → Bool) → list_all (λ (d : DocumentCommand). not (test d)) documents ≡ true → test c ≡ false
+  is_other test all = not_so (test c) (tested_alone (λ (d : DocumentCommand). not (test d)) all c one)
 
-document_alone : (c : DocumentCommand) → is_one_word c ≡ true → (x : Text) (words : List Text) → command_of (word_of c ∷ x ∷ words) ≡ None
-unfolding of_two_words
-document_alone Run one x [] = refl
-document_alone Interleave one x [] = refl
-document_alone Replay one x [] = refl
-document_alone Check one x [] = refl
-document_alone Measure one x [] = refl
-document_alone Renew one x [] = refl
-document_alone (Rewind place) one x [] = absurd (false≢true one)
-document_alone Rounds one x [] = refl
-document_alone Elect one x [] = refl
-document_alone Tickets one x [] = refl
-document_alone c one x (y ∷ words) = refl
+  no_dash : begins_with_dash (word_of c) ≡ false
+  no_dash = is_other (λ (d : DocumentCommand). begins_with_dash (word_of d)) refl
+
+  no_help : bytes_eq (word_of c) (codes "help") ≡ false
+  no_help = is_other (λ (d : DocumentCommand). bytes_eq (word_of d) (codes "help")) refl
+
+  is_no_show : bytes_eq (codes "show") (word_of c) ≡ false
+  is_no_show = is_other (λ (d : DocumentCommand). bytes_eq (codes "show") (word_of d)) refl
+
+  is_no_sample : bytes_eq (codes "sample") (word_of c) ≡ false
+  is_no_sample = is_other (λ (d : DocumentCommand). bytes_eq (codes "sample") (word_of d)) refl
+
+  is_no_rewind : bytes_eq (codes "rewind") (word_of c) ≡ false
+  is_no_rewind = is_other (λ (d : DocumentCommand). bytes_eq (codes "rewind") (word_of d)) refl
+
+  its_sub : answering (word_of c) (built words_syntax).subs ≡ Some (leaf_of c)
+  its_sub = ap (answering (word_of c)) subs_are ∙ one_answers documents with_arguments (word_of c) c ((row_is c).own one)
+
+  its_name : subcommand_met names idle (word_of c) ≡ Some (word_of c)
+  its_name = met_by (word_of c) (Some (leaf_of c)) its_sub
+
+  document_in_words : (rest : List Text) → fault (word_of c ∷ rest) ≡ or_else (level_fault (leaf (word_of c) []) [] nothing_held rest false []) []
+  document_in_words rest = fault_in (word_of c) (leaf_of c) its_name no_help its_sub rest
+
+  document_read : of_subcommand (read (word_of c ∷ [])) ≡ command_of (word_of c ∷ [])
+  document_read =
+      ap of_subcommand (read_in (word_of c) (leaf_of c) its_name no_help its_sub [])
+      ∙ read_alone (word_of c) is_no_show is_no_sample is_no_rewind (rows_at (leaf_of c) []).1
+
+  document_well : fault (word_of c ∷ []) ≡ []
+  document_well = document_in_words [] ∙ leaf_well (word_of c)
+
+  document_alone : (x : Text) (words : List Text) → command_of (word_of c ∷ x ∷ words) ≡ None
+  document_alone x [] = none_of_two (word_of c) is_no_show is_no_sample is_no_rewind x
+  document_alone x (y ∷ words) = refl
 
 plain_first : (x : Text) (words : List Text) → list_any begins_with_dash (x ∷ words) ≡ false → begins_with_dash x ≡ false
 plain_first x words e = (or_parts (begins_with_dash x) (list_any begins_with_dash words) e).0
@@ -218,16 +259,7 @@ no_digit (d ∷ digits) e = by (d == 45) refl
 
 -- no word of a command begins so
 words_plain : (c : Command) (words : List Text) → AreWordsOf c words → list_any begins_with_dash words ≡ false
-words_plain c words (AreWordsOf.document Run one) = refl
-words_plain c words (AreWordsOf.document Interleave one) = refl
-words_plain c words (AreWordsOf.document Replay one) = refl
-words_plain c words (AreWordsOf.document Check one) = refl
-words_plain c words (AreWordsOf.document Measure one) = refl
-words_plain c words (AreWordsOf.document Renew one) = refl
-words_plain c words (AreWordsOf.document (Rewind place) one) = refl
-words_plain c words (AreWordsOf.document Rounds one) = refl
-words_plain c words (AreWordsOf.document Elect one) = refl
-words_plain c words (AreWordsOf.document Tickets one) = refl
+words_plain c words (AreWordsOf.document d one) = rw (no_dash d one) refl
 words_plain c words (AreWordsOf.rewind digits place s) = rw (no_digit digits s.all) refl
 words_plain c words (AreWordsOf.show Hexagon) = refl
 words_plain c words (AreWordsOf.show Erosion) = refl

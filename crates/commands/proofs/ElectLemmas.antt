@@ -84,7 +84,8 @@ won law sound bytes a text h (begun d t told u erodes ready x) =
     record {
       document = d;
       entries = by.entries;
-      agrees = by.agrees;
+      told = by.agrees.told;
+      agrees = by.agrees.agrees;
       elected = λ place world at. law d.program d.start by.entries place world erodes (valid_start sound bytes a d h) ready at;
       writes = by.is_text;
     }

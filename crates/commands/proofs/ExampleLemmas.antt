@@ -184,7 +184,7 @@ module _ (goods : ReachedIsGood) (serials : OneListIsSerial) where
     check = served Check program_text only_program status.Done None _ (says form.Check program_text (Ok only_program) are_answered.program) (written _ (out, refl, refl));
     show = shown Line;
     measure = served Measure with_nobody and_nobody status.Done None _ (says form.Measure with_nobody (Ok and_nobody) are_answered.nobody) (written _ (nobody, refl, nobody_is_measured));
-    refused_task = (refused Interleave [] empty_refused (says form.Interleave [] (Err empty_refused) are_answered.empty), λ worked. absurd worked);
+    refused_task = (refused Interleave [] empty_refused (says form.Interleave [] (Err empty_refused) are_answered.empty), λ worked done. cc);
     run_task = record {
       its_maker = refl;
       its_lists = of_document Run with_list and_list (says form.Run with_list (Ok and_list) are_answered.list) refl refl refl refl refl;

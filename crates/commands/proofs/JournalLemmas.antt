@@ -28,7 +28,7 @@ use Rattle.commands.specs.Laws.{SameIfAny}
 use Rattle.commands.specs.Outcomes.{IsOutcome}
 use Rattle.commands.specs.Owed.{read_fault, longer, refused, served}
 use Rattle.commands.specs.Reads.{Read, whole}
-use Rattle.commands.specs.Journals.{Agrees, DocumentRecord, EntriesOutcome, JournalAgrees, JournalOutcome, TellsEntries, agreeing, differing, differs_line, in_full, in_plain}
+use Rattle.commands.specs.Journals.{Agrees, DocumentRecord, EntriesOutcome, JournalOutcome, TellsEntries, agreeing, differing, differs_line, in_full, in_plain}
 use Rattle.commands.specs.RenewLaws.{EndsAsReplay, IsOwedFor}
 use Rattle.commands.specs.Replay.{agrees_line}
 use Rattle.commands.specs.ReportLaws.{ReplayIsDecided}
@@ -120,6 +120,11 @@ module _ {a : Contents} {d : DocumentRecord a} {IsText : List Entry → List ℕ
   pub other_end : (Other : List Entry → List ℕ → Type 0) (s : Status) (report : Option Report) (text : List ℕ) → s ≢ status.Done → JournalOutcome a d IsText s report text → JournalOutcome a d Other s report text
   other_end Other s report text other (in_full es its is) = in_full es its (entries_other Other s report text other is)
   other_end Other s report text other (in_plain ps its is) = in_plain ps its (entries_other Other s report text other is)
+
+-- these entries of the journal are a run from the shape to the final shape
+pub record JournalAgrees (a : Contents) (d : DocumentRecord a) (es : List Entry) : Type 0 where
+  pub told : TellsEntries a es
+  pub agrees : Agrees (verdict_shown d.program) d.start es d.final
 
 -- a journal that agrees, and a text of its entries
 pub record IsDoneJournal (a : Contents) (d : DocumentRecord a) (IsText : List Entry → List ℕ → Type 0) (text : List ℕ) : Type 0 where

@@ -3,6 +3,7 @@ pub mod Bodies
 pub mod Canonical
 pub mod CommandDocuments
 pub mod CommandLemmas
+pub mod CommandRows
 pub mod CountedRounds
 pub mod DocumentWorlds
 pub mod ElectDocuments
@@ -19,6 +20,7 @@ pub mod MarkLemmas
 pub mod Measures
 pub mod NumberWords
 pub mod Outcomes
+pub mod OutcomeEnds
 pub mod OwedLemmas
 pub mod OwedTexts
 pub mod PatchLemmas
@@ -42,6 +44,7 @@ pub mod SomethingOwedLemmas
 pub mod SyntaxLemmas
 pub mod TaskLemmas
 pub mod ToldEntries
+pub mod TurnMakers
 pub mod WordsLemmas
 pub mod WorkExampleLemmas
 pub mod Worlds

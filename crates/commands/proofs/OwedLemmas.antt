@@ -1,5 +1,5 @@
 -- One thing is owed.
-use Rattle.std.proofs.Common.{◌≡◌, ◌<◌, ◌≤◌, ℕ, List, length, codes, Option, Some, Result, Ok, Err, ap, sym, subst, refl, ◌∙◌, arith}
+use Rattle.std.proofs.Common.{◌≡◌, ◌<◌, ◌≤◌, ℕ, List, length, codes, Option, Some, Result, Ok, Err, inl, inr, ap, sym, subst, refl, ◌∙◌, arith}
 use Rattle.std.specs.Prelude.{IfSome}
 use Rattle.text_tokens.specs.declared.refusal.Refusal.{Refusal}
 use Rattle.amoebot_state.specs.declared.verdict.Entry.{Entry}
@@ -205,12 +205,12 @@ module _ (laws : OneOfEach) where
       → IsOutcome a c s one text → IsOutcome a c t two other → SameOwed (Some (Document c)) (whole bytes) s t one two text other
   one_outcome Run bytes a s t one two text other h (reported d r run) (reported e q other_run) =
       let same = λ (decided : IfSome a.lists (λ lists. length lists.ids ≤ 1)). run_is_one a d e r q decided run other_run in
-      record { status = refl; report = λ decided. (same (decided tt a h)).0; text = λ decided. (same (decided tt a h)).1 }
+      record { status = refl; report = λ decided. (same (decided (inl refl) a h)).0; text = λ decided. (same (decided (inl refl) a h)).1 }
   one_outcome Tickets bytes a s t one two text other h (reported d r run) (reported e q other_run) =
       let first = laws.claimed (setup (verdict_shown d.program) d.start d.lists) r run.reached in
       let second = laws.claimed (setup (verdict_shown e.program) e.start e.lists) q other_run.reached in
       let same = λ (decided : IfSome a.lists (λ lists. length lists.ids ≤ 1)). run_is_one a d e r q decided (record { good = run.good; reached = first; serial = run.serial }) (record { good = other_run.good; reached = second; serial = other_run.serial }) in
-      record { status = refl; report = λ decided. (same (decided tt a h)).0; text = λ decided. (same (decided tt a h)).1 }
+      record { status = refl; report = λ decided. (same (decided (inr refl) a h)).0; text = λ decided. (same (decided (inr refl) a h)).1 }
   one_outcome Interleave bytes a s t one two text other h (reported d r (schedule, its_schedule, run)) (reported e q (steps, its_steps, other_run)) =
       let same = interleave_is_one a d e schedule steps r q its_schedule its_steps run other_run in
       record { status = refl; report = λ _. same.0; text = λ _. same.1 }

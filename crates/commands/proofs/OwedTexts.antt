@@ -1,5 +1,5 @@
 -- What the commands answer is what they owe.
-use Rattle.std.proofs.Common.{◌≡◌, ◌<◌, ℕ, List, length, Option, Some, sym, subst, ap, ◌∙◌, Result}
+use Rattle.std.proofs.Common.{◌≡◌, ◌<◌, ℕ, false, List, length, Option, Some, sym, subst, ap, ◌∙◌, Result}
 use Rattle.std.specs.Prelude.{IsSome, IfSome, IfOk}
 use Rattle.std.specs.List.{All}
 use Rattle.text_tokens.specs.declared.refusal.Refusal.{Refusal}
@@ -9,12 +9,13 @@ use Rattle.claim_core.specs.Turns.{CallerLists, HaveBots}
 use Rattle.shape_files.specs.Documents.{Contents, bots_of}
 use Rattle.shape_files.specs.Fitting.{FitTogether}
 use Rattle.shipped_programs.specs.declared.shipped.Shipped.{Shipped}
-use Rattle.commands.specs.declared.words.Command.TheVariants.{Document, Show}
+use Rattle.commands.specs.declared.words.Command.TheVariants.{Show}
 use Rattle.commands.specs.declared.words.DocumentCommand.{DocumentCommand}
 use Rattle.commands.specs.declared.answer.Answer.{Answer}
 use Rattle.commands.specs.declared.answer.Task.TheVariants as task
 use Rattle.commands.specs.declared.status.Status.TheVariants as status
-use Rattle.commands.specs.Commands.{IsDocumentFaultOf, NeedsWorkers}
+use Rattle.commands.specs.Commands.{IsDocumentFaultOf, row_of}
+use Rattle.commands.proofs.TurnMakers.{has_none, has_workers}
 use Rattle.commands.specs.Reads.{nothing}
 use Rattle.commands.specs.Journals.{DocumentRecord}
 use Rattle.commands.specs.Owed.{IsOwed, refused, served, shown}
@@ -49,9 +50,9 @@ abbrev pub record_of : (a : Contents) (r : Recorded) → IsRecordOf a r → Docu
 record_of a r is = record { program = r.runner; start = r.start; final = r.last; its_program = is.program; its_shape = is.start; its_final = is.last }
 
 -- what a command answers that needs no workers is its task
-pub serves : (c d : DocumentCommand) (a : Contents) (answer : Answer) → d ≡ c → (NeedsWorkers (Some (Document c)) → ⊥) → IsAnswerOf (IsOutcome a c) answer → IsTaskTo d a (task.Answered answer)
-serves c d a answer same free is = subst (λ (e : DocumentCommand). IsTaskTo e a (task.Answered answer)) (sym same)
-    (λ bytes h. (served c bytes a answer.status answer.report answer.text h is, λ needs. absurd (free needs)))
+pub serves : (c d : DocumentCommand) (a : Contents) (answer : Answer) → d ≡ c → has_workers (row_of c).maker ≡ false → IsAnswerOf (IsOutcome a c) answer → IsTaskTo d a (task.Answered answer)
+serves c d a answer same without is = subst (λ (e : DocumentCommand). IsTaskTo e a (task.Answered answer)) (sym same)
+    (λ bytes h. (served c bytes a answer.status answer.report answer.text h is, λ needs. absurd (has_none (row_of c).maker without needs)))
 
 -- where it is that for each answer that is left
 pub ok_answers : {X : Type 0} (Outcome : Status → Option Report → List ℕ → Type 0) (r : Result Answer X) (one : Answer) → IsAnswerOf Outcome one → IfOk r (λ (a : Answer). a ≡ one) → IfOk r (IsAnswerOf Outcome)

@@ -45,8 +45,8 @@ use Rattle.commands.proofs.DocumentWorlds.{drawn, may}
 use Rattle.commands.proofs.Entries.{IsNumbered, all_keep_limits}
 use Rattle.commands.proofs.Outcomes.{documents_have_outcomes}
 use Rattle.commands.proofs.Worlds.{MayRun, is_writable, maxes_are}
-use Rattle.commands.specs.Journals.{DocumentRecord, JournalAgrees, TellsEntries}
-use Rattle.commands.proofs.JournalLemmas.{agreeing_journal, done_journal, ends_as_replay, replay_agrees, IsRenewedText}
+use Rattle.commands.specs.Journals.{DocumentRecord, TellsEntries}
+use Rattle.commands.proofs.JournalLemmas.{JournalAgrees, agreeing_journal, done_journal, ends_as_replay, replay_agrees, IsRenewedText}
 
 -- what the laws of lower crates say
 pub record RenewRules : Type 0 where

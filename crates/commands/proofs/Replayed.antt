@@ -27,7 +27,7 @@ use Rattle.shape_files.specs.Fitting.{FitTogether, DocumentsAreSound, DocumentsF
 use Rattle.commands.specs.Reports.{report_text, reported}
 use Rattle.commands.specs.ReportLaws.{GoodIsFew}
 use Rattle.commands.specs.declared.words.DocumentCommand.{DocumentCommand}
-use Rattle.commands.specs.declared.words.DocumentCommand.TheVariants.{Run, Interleave, Replay, Check, Measure, Renew, Rewind, Rounds, Elect, Tickets}
+use Rattle.commands.specs.declared.words.DocumentCommand.TheVariants.{Interleave}
 use Rattle.commands.specs.declared.status.Status.TheVariants as status
 use Rattle.commands.specs.Commands.{IsDocumentOf}
 use Rattle.commands.specs.Outcomes.{IsOutcome}
@@ -41,7 +41,7 @@ use Rattle.commands.proofs.MarkLemmas.{few_callers, marks_writable}
 use Rattle.commands.proofs.Interleaved.{interleaves_are_runs}
 use Rattle.commands.specs.Journals.{TellsEntries}
 use Rattle.commands.proofs.JournalLemmas.{replay_agrees}
-use Rattle.commands.proofs.Outcomes.{makes_turns}
+use Rattle.commands.proofs.OutcomeEnds.{IsEndOf, reports, end_of}
 use Rattle.commands.specs.declared.status.Status.TheVariants.{Done}
 
 -- what the laws of lower crates say
@@ -173,17 +173,8 @@ module _ (laws : Laws) where
   pub interleave_texts_are_replayed : InterleaveTextsAreReplayed
   interleave_texts_are_replayed = record { is_run = interleaves_are_runs; replayed = interleave_text_is_replayed }
 
-  outcome_is_replayed : (c : DocumentCommand) (bytes : List ℕ) (a : Contents) (report : Report) (text : List ℕ) → EndsLine bytes → IsDocumentOf c bytes a → IsOutcome a c status.Done (Some report) text → IsReplayed bytes a report text
-  outcome_is_replayed Run bytes a report text line holds is = run_texts_are_replayed bytes a report text line holds is
-  outcome_is_replayed Interleave bytes a report text line holds is = interleave_text_is_replayed bytes a report text line (interleaves_are_runs bytes a holds) is
-  outcome_is_replayed Replay bytes a report text line holds is = absurd (makes_turns Replay a status.Done report text is)
-  outcome_is_replayed Check bytes a report text line holds is = absurd (makes_turns Check a status.Done report text is)
-  outcome_is_replayed Measure bytes a report text line holds is = absurd (makes_turns Measure a status.Done report text is)
-  outcome_is_replayed Renew bytes a report text line holds is = absurd (makes_turns Renew a status.Done report text is)
-  outcome_is_replayed (Rewind place) bytes a report text line holds is = absurd (makes_turns (Rewind place) a status.Done report text is)
-  outcome_is_replayed Rounds bytes a report text line holds is = absurd (makes_turns Rounds a status.Done report text is)
-  outcome_is_replayed Elect bytes a report text line holds is = absurd (makes_turns Elect a status.Done report text is)
-  outcome_is_replayed Tickets bytes a report text line holds is = ticket_texts_are_replayed bytes a report text line holds is
+  end_is_replayed : (c : DocumentCommand) (bytes : List ℕ) (a : Contents) (report : Report) (text : List ℕ) → EndsLine bytes → IsDocumentOf c bytes a → IsEndOf c a status.Done (Some report) text → IsReplayed bytes a report text
+  end_is_replayed c bytes a report text line holds (reports makes as_run d r good reached) = is_replayed laws bytes a d.program d.start d.lists report (as_run bytes holds) d.its_program d.its_shape d.its_lists good text line refl
 
   pub what_is_owed_is_replayed : WhatIsOwedIsReplayed
-  what_is_owed_is_replayed c bytes report text line (served d same a s told v holds is) = (outcome_is_replayed c bytes a report text line holds is).agrees
+  what_is_owed_is_replayed c bytes report text line (served d same a s told v holds is) = (end_is_replayed c bytes a report text line holds (end_of c a status.Done (Some report) text is)).agrees

@@ -1,5 +1,5 @@
 -- One task is to be done.
-use Rattle.std.proofs.Common.{◌≡◌, ◌≢◌, ℕ, List, [], Option, Some, None, ap, sym, subst, refl, ◌∙◌}
+use Rattle.std.proofs.Common.{◌≡◌, ◌≢◌, inl, inr, ℕ, List, [], Option, Some, None, ap, sym, subst, refl, ◌∙◌}
 use Rattle.claim_core.specs.declared.report.Report.{Report}
 use Rattle.claim_core.specs.Turns.{CallerLists}
 use Rattle.claim_core.proofs.Places.{one_at}
@@ -9,11 +9,10 @@ use Rattle.shape_files.specs.Documents.{Contents}
 use Rattle.shape_files.specs.LeastVersions.{DecidedFromEach}
 use Rattle.run_sample.specs.Laws.{SampleIsUnique}
 use Rattle.commands.specs.ReportLaws.{SampleTextIsOne}
-use Rattle.commands.specs.Journals.{differs_line, agreeing, differing, DocumentRecord, EntriesOutcome, JournalOutcome, in_full, in_plain}
+use Rattle.commands.specs.Journals.{differs_line}
 use Rattle.commands.specs.declared.words.Command.{Command}
 use Rattle.commands.specs.declared.words.Command.TheVariants.{Document}
 use Rattle.commands.specs.declared.words.DocumentCommand.{DocumentCommand}
-use Rattle.commands.specs.declared.words.DocumentCommand.TheVariants.{Run, Interleave, Replay, Check, Measure, Renew, Rewind, Rounds, Elect, Tickets}
 use Rattle.commands.specs.declared.answer.Answer.{Answer}
 use Rattle.commands.specs.declared.answer.Maker.{Maker}
 use Rattle.commands.specs.declared.answer.Maker.TheVariants as maker
@@ -23,23 +22,16 @@ use Rattle.commands.specs.declared.answer.Telling.{Telling}
 use Rattle.commands.specs.declared.answer.Telling.TheVariants as telling
 use Rattle.commands.specs.declared.status.Status.{Status}
 use Rattle.commands.specs.declared.status.Status.TheVariants as status
-use Rattle.commands.specs.Commands.{HaveWorkers, NeedsWorkers, maker_of}
+use Rattle.commands.specs.Commands.{NeedsWorkers, maker_of, row_of}
 use Rattle.commands.specs.Lines.{usage_line, read_fault_line, refusal_line}
 use Rattle.commands.specs.Reads.{Read, whole}
 use Rattle.commands.specs.Owed.{IsOwed, usage, read_fault, longer, refused, served, shown, sampled}
-use Rattle.commands.specs.Outcomes.{IsOutcome}
 use Rattle.commands.specs.Answers.{IsRunFor, IsTaskOf, Tells, of_document, of_number, turn_maker}
 use Rattle.commands.specs.Laws.{SameIfAny, SameTask, OwedIsOne, PreparedIsOne, TaskIsOne, TellingIsOne}
 use Rattle.commands.proofs.Outcomes.{documents_have_outcomes, worked_is_done}
 use Rattle.commands.proofs.OwedLemmas.{same_contents}
-use Rattle.commands.specs.Rewind.{no_place, unwound, not_unwound}
-use Rattle.commands.specs.Elect.{no_erosion, not_ready, begun}
-use Rattle.commands.specs.Reports.{reported}
-use Rattle.commands.specs.Texts.{written}
-use Rattle.amoebot_state.specs.declared.verdict.Entry.{Entry}
-use Rattle.amoebot_state.specs.declared.verdict.Verdict.{Verdict}
-use Rattle.amoebot_state.specs.Configs.{Config}
-use Rattle.amoebot_state.specs.Zones.{Shown}
+use Rattle.commands.proofs.OutcomeEnds.{IsEndOf, reports, writes, refuses, differs, end_of}
+use Rattle.commands.proofs.TurnMakers.{works_or_not}
 
 -- the line that comes with a status other than Done
 abbrev line_of : Status → List ℕ
@@ -55,47 +47,25 @@ line_of (status.Differs place) = differs_line place
 abbrev IsLine : Status → Option Report → List ℕ → Type 0
 IsLine s report text = s ≢ status.Done → (report ≡ None) × (text ≡ line_of s)
 
-line_of_entries : {E : Type 0} {form : Entry → E} {f : Shown → Verdict} {start : Config} {told : List E} {final : Config} {IsText : List Entry → List ℕ → Type 0} (s : Status) (report : Option Report) (text : List ℕ)
-    → EntriesOutcome form f start told final IsText s report text → IsLine s report text
-line_of_entries s report text (agreeing es u tells run is) other = absurd (other refl)
-line_of_entries s report text (differing place differs) other = (refl, refl)
-
-line_of_journal : {a : Contents} {d : DocumentRecord a} {IsText : List Entry → List ℕ → Type 0} (s : Status) (report : Option Report) (text : List ℕ) → JournalOutcome a d IsText s report text → IsLine s report text
-line_of_journal s report text (in_full es its is) = line_of_entries s report text is
-line_of_journal s report text (in_plain ps its is) = line_of_entries s report text is
-
-unserved : (c : DocumentCommand) (a : Contents) (s : Status) (report : Option Report) (text : List ℕ) → IsOutcome a c s report text → IsLine s report text
-unserved Run a s report text (reported d r run) other = absurd (other refl)
-unserved Tickets a s report text (reported d r run) other = absurd (other refl)
-unserved Interleave a s report text (reported d r run) other = absurd (other refl)
-unserved Replay a s report text (d, x) other = line_of_journal s report text x other
-unserved Check a s report text (written u is) other = absurd (other refl)
-unserved Measure a s report text (written u is) other = absurd (other refl)
-unserved Renew a s report text (d, x) other = line_of_journal s report text x other
-unserved (Rewind place) a s report text (no_place d es its above) other = (refl, refl)
-unserved (Rewind place) a s report text (unwound d es world its within is) other = absurd (other refl)
-unserved (Rewind place) a s report text (not_unwound d es k its within is) other = (refl, refl)
-unserved Rounds a s report text (d, x) other = line_of_journal s report text x other
-unserved Elect a s report text (no_erosion d another) other = (refl, refl)
-unserved Elect a s report text (not_ready d is another) other = (refl, refl)
-unserved Elect a s report text (begun d t told u is ready x) other = line_of_journal s report text x other
+unserved : (c : DocumentCommand) (a : Contents) (s : Status) (report : Option Report) (text : List ℕ) → IsEndOf c a s report text → IsLine s report text
+unserved c a s report text (reports makes as_run d r good reached) other = absurd (other refl)
+unserved c a s report text (writes none u) other = absurd (other refl)
+unserved c a s report text (refuses none r) other = (refl, refl)
+unserved c a s report text (differs none place) other = (refl, refl)
 
 untold : (c : Option Command) (read : Read) (s : Status) (report : Option Report) (text : List ℕ) → IsOwed c read s report text → s ≢ status.Done → (report ≡ None) × (text ≡ line_of s)
 untold c read s report text usage other = (refl, refl)
 untold c read s report text (read_fault d got) other = (refl, refl)
 untold c read s report text (longer d got) other = (refl, refl)
 untold c read s report text (refused d bytes r x) other = (refl, refl)
-untold c read s report text (served d bytes a t told v x is) other = unserved d a s report text is other
+untold c read s report text (served d bytes a t told v x is) other = unserved d a s report text (end_of d a s report text is) other
 untold c read s report text (shown p) other = absurd (other refl)
 untold c read s report text (sampled seed told v x) other = absurd (other refl)
 
 -- turns that are prepared are for workers
-have_workers : (m : Maker) → HaveWorkers (turn_maker m)
-have_workers maker.Workers = tt
-have_workers maker.Tickets = tt
-
 needs_workers : (c : Option Command) (m : Maker) → maker_of c ≡ turn_maker m → NeedsWorkers c
-needs_workers c m its = subst HaveWorkers (sym its) (have_workers m)
+needs_workers c maker.Workers its = inl its
+needs_workers c maker.Tickets its = inr its
 
 module _ (documents : DecidedFromEach) (owed : OwedIsOne) where
   -- what is answered of a command that needs workers is not Done, so it has no report
@@ -113,16 +83,10 @@ module _ (documents : DecidedFromEach) (owed : OwedIsOne) where
       (same.status, same.report (λ needs. absurd (free needs)), same.text (λ needs. absurd (free needs)))
 
   both_answered : (c : DocumentCommand) (bytes : List ℕ) (one two : Answer) → IsTaskOf c bytes (task.Answered one) → IsTaskOf c bytes (task.Answered two) → SameTask (task.Answered one) (task.Answered two)
-  both_answered Run bytes one two x y = none_done Run bytes one two tt x y
-  both_answered Interleave bytes one two x y = answered_once Interleave bytes one two (λ needs. needs) x y
-  both_answered Replay bytes one two x y = answered_once Replay bytes one two (λ needs. needs) x y
-  both_answered Check bytes one two x y = answered_once Check bytes one two (λ needs. needs) x y
-  both_answered Measure bytes one two x y = answered_once Measure bytes one two (λ needs. needs) x y
-  both_answered Renew bytes one two x y = answered_once Renew bytes one two (λ needs. needs) x y
-  both_answered (Rewind place) bytes one two x y = answered_once (Rewind place) bytes one two (λ needs. needs) x y
-  both_answered Rounds bytes one two x y = answered_once Rounds bytes one two (λ needs. needs) x y
-  both_answered Elect bytes one two x y = answered_once Elect bytes one two (λ needs. needs) x y
-  both_answered Tickets bytes one two x y = none_done Tickets bytes one two tt x y
+  both_answered c bytes one two x y = elim (works_or_not (row_of c).maker) [
+    | inl needs ↦ none_done c bytes one two needs x y
+    | inr free ↦ answered_once c bytes one two free x y
+  ]
 
   -- for a document whose lists workers are to run nothing but Done is an outcome
   not_answered : (c : DocumentCommand) (bytes : List ℕ) (answer : Answer) (run : Prepared) → IsTaskOf c bytes (task.Answered answer) → NeedsWorkers (Some (Document c)) → IsRunFor run (Some (Document c)) (whole bytes) → ⊥

@@ -5,7 +5,7 @@ use Rattle.std.specs.Option.{option_map}
 use Rattle.std.specs.List.{list_all}
 use Rattle.std.specs.Str.{bytes_eq}
 use Rattle.std.proofs.lemmas.Slice.Eq.{bytes_eq-Decides}
-use Rattle.std.proofs.lemmas.Bool.{and_parts, cases_Bool, false≢true}
+use Rattle.std.proofs.lemmas.Bool.{and_parts, cases_Bool}
 use Rattle.std.specs.Str.Parse.{digits_value}
 use Rattle.shipped_programs.specs.declared.shipped.Shipped.{Shipped}
 use Rattle.shipped_programs.specs.declared.shipped.Shipped.TheVariants.{Hexagon, Erosion, Line}
@@ -13,9 +13,9 @@ use Rattle.shipped_programs.specs.Shipped.{shipped_name}
 use Rattle.commands.specs.declared.words.Command.{Command}
 use Rattle.commands.specs.declared.words.Command.TheVariants.{Document, Show, Sample}
 use Rattle.commands.specs.declared.words.DocumentCommand.{DocumentCommand}
-use Rattle.commands.specs.declared.words.DocumentCommand.TheVariants.{Run, Interleave, Replay, Check, Measure, Renew, Rewind, Rounds, Elect, Tickets}
 use Rattle.commands.specs.Words.{AreWordsOf, IsNumberWord, word_of, is_one_word, document_in, documents, show_in, shipped, is_number_word, number_of, numbered_by, rewind_to, of_two_words, command_of}
 use Rattle.commands.specs.WordLaws.{CommandIsItsWords, SmallWords}
+use Rattle.commands.proofs.CommandRows.{row_is}
 use Rattle.commands.proofs.NumberWords.{decides_number, is_number, is_no_number}
 
 pub same_word : (one two : List ℕ) → bytes_eq one two ≡ true → one ≡ two
@@ -30,12 +30,26 @@ other_word one two other = by (bytes_eq one two) refl
 
 -- what a choice gives is what one of its sides gives
 module _ (b : Bool) (one other : Option Command) (c : Command) where
-  by_choice : (if b then one else other) ≡ Some c → ((b ≡ true) × (one ≡ Some c)) ⊎ ((b ≡ false) × (other ≡ Some c))
+  pub by_choice : (if b then one else other) ≡ Some c → ((b ≡ true) × (one ≡ Some c)) ⊎ ((b ≡ false) × (other ≡ Some c))
   by_choice e = by b refl
     where
       by : (t : Bool) → b ≡ t → ((b ≡ true) × (one ≡ Some c)) ⊎ ((b ≡ false) × (other ≡ Some c))
       by true is = inl (is, sym (ap (λ (x : Bool). if x then one else other) is) ∙ e)
       by false is = inr (is, sym (ap (λ (x : Bool). if x then one else other) is) ∙ e)
+
+-- what is tested of each of some commands holds of the one that a word names
+tested : (test : DocumentCommand → Bool) (cs : List DocumentCommand) → list_all test cs ≡ true → (word : List ℕ) (c : DocumentCommand) → document_in cs word ≡ Some (Document c) → test c ≡ true
+tested test [] all word c e = absurd (cc)
+tested test (d ∷ cs) all word c e =
+    let parts = and_parts (test d) (list_all test cs) all in
+    elim (by_choice (bytes_eq (word_of d) word) (Some (Document d)) (document_in cs word) (Document c) e) [
+      | inl by ↦ let same : d ≡ c = cc in subst (λ (x : DocumentCommand). test x ≡ true) same parts.0
+      | inr by ↦ tested test cs parts.1 word c by.1
+    ]
+
+-- so it holds of each command whose word stands alone
+pub tested_alone : (test : DocumentCommand → Bool) → list_all test documents ≡ true → (c : DocumentCommand) → is_one_word c ≡ true → test c ≡ true
+tested_alone test all c one = tested test documents all (word_of c) c ((row_is c).own one)
 
 document_named : (cs : List DocumentCommand) → list_all is_one_word cs ≡ true → (word : List ℕ) (c : Command) → document_in cs word ≡ Some c → AreWordsOf c (word ∷ [])
 document_named [] ones word c e = absurd (cc)
@@ -90,19 +104,6 @@ are_its_words (word ∷ []) c e = document_named documents refl word c e
 are_its_words (word ∷ other ∷ []) c e = two_named word other c e
 are_its_words (word ∷ other ∷ third ∷ words) c e = absurd (cc)
 
--- each command has its words
-own_word : (c : DocumentCommand) → is_one_word c ≡ true → command_of (word_of c ∷ []) ≡ Some (Document c)
-own_word Run one = refl
-own_word Interleave one = refl
-own_word Replay one = refl
-own_word Check one = refl
-own_word Measure one = refl
-own_word Renew one = refl
-own_word (Rewind place) one = absurd (false≢true one)
-own_word Rounds one = refl
-own_word Elect one = refl
-own_word Tickets one = refl
-
 pub own_name : (program : Shipped) → show_in shipped (shipped_name program) ≡ Some (Show program)
 own_name Hexagon = refl
 own_name Erosion = refl
@@ -113,9 +114,10 @@ own_number command digits number s =
     let here : IsNumberWord digits (digits_value 10 digits) = subst (IsNumberWord digits) (sym s.value) s in
     ap (option_map command) (is_number digits ((decides_number digits).1 here)) ∙ ap (λ (n : ℕ). Some (command n)) s.value
 
+-- each command has its words
 own_words : (c : Command) (words : List (List ℕ)) → AreWordsOf c words → command_of words ≡ Some c
 unfolding of_two_words
-own_words c words (AreWordsOf.document d one) = own_word d one
+own_words c words (AreWordsOf.document d one) = (row_is d).own one
 own_words c words (AreWordsOf.rewind digits place s) = own_number rewind_to digits place s
 own_words c words (AreWordsOf.show program) = own_name program
 own_words c words (AreWordsOf.sample digits seed s) = own_number Sample digits seed s

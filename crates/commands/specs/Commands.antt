@@ -1,5 +1,5 @@
 -- The table of the commands, the documents of a command, and the numbers of the statuses.
-use Rattle.std.specs.Prelude.{ℕ, List, Bool, true, false, codes, ⊤}
+use Rattle.std.specs.Prelude.{◌≡◌, ◌≢◌, ◌⊎◌, ℕ, List, Bool, true, false, codes, ⊤}
 use Rattle.std.specs.declared.option.Option.{Option}
 use Rattle.std.specs.declared.option.Option.TheVariants.{Some, None}
 use Rattle.shape_files.specs.declared.section_kind.Form.{Form}
@@ -111,49 +111,21 @@ maker_of (Some (Show program)) = no_maker
 maker_of (Some (Sample seed)) = the_workers
 maker_of None = no_maker
 
--- somebody makes them
-abbrev pub SomebodyMakes : TurnMaker → Type 0
-SomebodyMakes no_maker = ⊥
-SomebodyMakes the_schedule = ⊤
-SomebodyMakes the_workers = ⊤
-SomebodyMakes the_tickets = ⊤
-
--- workers make them, and take the journal for each commit
-abbrev pub AreWorkers : TurnMaker → Type 0
-AreWorkers no_maker = ⊥
-AreWorkers the_schedule = ⊥
-AreWorkers the_workers = ⊤
-AreWorkers the_tickets = ⊥
-
--- workers make them, whose commits draw their places
-abbrev pub AreTickets : TurnMaker → Type 0
-AreTickets no_maker = ⊥
-AreTickets the_schedule = ⊥
-AreTickets the_workers = ⊥
-AreTickets the_tickets = ⊤
-
--- workers make them in either way
-abbrev pub HaveWorkers : TurnMaker → Type 0
-HaveWorkers no_maker = ⊥
-HaveWorkers the_schedule = ⊥
-HaveWorkers the_workers = ⊤
-HaveWorkers the_tickets = ⊤
-
 -- the command makes the turns of lists: those of a document, or those of a sample
 abbrev pub MakesTurns : Option Command → Type 0
-MakesTurns c = SomebodyMakes (maker_of c)
+MakesTurns c = maker_of c ≢ no_maker
 
 -- workers make them, and take the journal for each commit
 abbrev pub IsWorked : Option Command → Type 0
-IsWorked c = AreWorkers (maker_of c)
+IsWorked c = maker_of c ≡ the_workers
 
 -- workers make them, whose commits draw their places
 abbrev pub IsTicketed : Option Command → Type 0
-IsTicketed c = AreTickets (maker_of c)
+IsTicketed c = maker_of c ≡ the_tickets
 
 -- workers make them in either way
 abbrev pub NeedsWorkers : Option Command → Type 0
-NeedsWorkers c = HaveWorkers (maker_of c)
+NeedsWorkers c = IsWorked c ⊎ IsTicketed c
 
 -- the number with which the program ends
 abbrev pub status_number : Status → ℕ

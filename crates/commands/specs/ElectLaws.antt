@@ -11,17 +11,19 @@ use Rattle.commands.specs.Elect.{election_text}
 use Rattle.commands.specs.declared.words.DocumentCommand.TheVariants.{Elect}
 use Rattle.commands.specs.declared.status.Status.TheVariants as status
 use Rattle.commands.specs.Commands.{IsDocumentOf}
-use Rattle.commands.specs.Journals.{DocumentRecord, JournalAgrees}
+use Rattle.commands.specs.Journals.{Agrees, DocumentRecord, TellsEntries}
 use Rattle.commands.specs.Reads.{whole}
 use Rattle.commands.specs.RenewLaws.{EndsAsReplay, IsOwedFor}
 
--- The journal of the document is a run of its program from its shape to its final shape.
+-- These entries of the document's journal are a run of its program,
+-- from its shape to its final shape.
 -- At most one amoebot leads in each world of that run,
 -- and the text tells the candidates and the leader of the last one.
 pub record IsWonElection (a : Contents) (text : List ℕ) : Type 0 where
   pub document : DocumentRecord a
   pub entries : List Entry
-  pub agrees : JournalAgrees a document entries
+  pub told : TellsEntries a entries
+  pub agrees : Agrees (verdict_shown document.program) document.start entries document.final
   pub elected : (place : ℕ) (world : Config)
       → IsWorldAt (verdict_shown document.program) document.start entries place world
       → IsElected world

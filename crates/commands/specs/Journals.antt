@@ -72,11 +72,6 @@ pub record DocumentRecord (a : Contents) : Type 0 where
 abbrev pub TellsEntries : Contents → List Entry → Type 0
 TellsEntries a es = (a.entries ≡ Some es) ⊎ (a.plain ≡ Some (map plain_entry es))
 
--- these entries of the journal are a run from the shape to the final shape
-pub record JournalAgrees (a : Contents) (d : DocumentRecord a) (es : List Entry) : Type 0 where
-  pub told : TellsEntries a es
-  pub agrees : Agrees (verdict_shown d.program) d.start es d.final
-
 -- how a command ends for the journal of a document, in the form that it has
 pub data JournalOutcome (a : Contents) (d : DocumentRecord a) (IsText : List Entry → List ℕ → Type 0)
     (s : Status) (report : Option Report) (text : List ℕ) : Type 0 where

@@ -21,6 +21,11 @@ abbrev pub full_of : Journal → Option (List Entry)
 full_of (journal.Full es) = Some es
 full_of (journal.Plain ps) = None
 
+-- the journal of these two sections: that with old values, if there is one, and else the other
+abbrev pub IsJournalIn : Option (List Entry) → Option (List PlainEntry) → Journal → Type 0
+IsJournalIn entries plain (journal.Full es) = entries ≡ Some es
+IsJournalIn entries plain (journal.Plain ps) = (entries ≡ None) × (plain ≡ Some ps)
+
 -- the entries of a journal are few, and each is of one of so many amoebots
 abbrev pub IsOfBots : ℕ → Journal → Type 0
 IsOfBots bots (journal.Full es) = All (λ (e : Entry). e.bot < bots) es × AreCountable es

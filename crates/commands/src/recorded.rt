@@ -1,10 +1,10 @@
 //! What a document has of a run that it records, as the commands that look at its journal take it.
 
-ghost use Rattle.std.specs.Prelude.{◌≡◌, length};
+ghost use Rattle.std.specs.Prelude.{◌≡◌, length, IsSome, None};
 ghost use Rattle.shape_files.specs.Fitting.{Fits};
 ghost use Rattle.shape_files.specs.Views.{contents};
 ghost use Rattle.commands.specs.Commands.{form_of};
-ghost use Rattle.commands.specs.Recorded.{HasItsJournal, IsOfBots, full_of, IsRecordOf};
+ghost use Rattle.commands.specs.Recorded.{HasItsJournal, IsJournalIn, IsOfBots, full_of, IsRecordOf};
 
 use crate::words::DocumentCommand;
 use action_eval::Runner;
@@ -59,14 +59,21 @@ pub(crate) fn recorded_in(parts: Parts) -> Recorded
     let runner = Runner::new(checked.unwrap());
     let start = world.unwrap();
     let last = final_world.unwrap();
-    let journal = match entries {
-        Some(full) => Journal::Full(full),
-        None => Journal::Plain(plain.unwrap()),
-    };
     Recorded {
         runner,
         start,
         last,
-        journal,
+        journal: journal_in(entries, plain),
+    }
+}
+
+/// The journal with old values, if there is one, and else the other.
+fn journal_in(entries: Option<Entries>, plain: Option<PlainEntries>) -> Journal
+    requires { entries ≡ None → IsSome plain }
+    ensures { IsJournalIn entries plain result }
+{
+    match entries {
+        Some(full) => Journal::Full(full),
+        None => Journal::Plain(plain.unwrap()),
     }
 }

@@ -4,12 +4,13 @@ use Rattle.shape_files.specs.Documents.{Contents, HasContentsFrom, IsDocumentFau
 use Rattle.shape_files.specs.Frame.{least_version}
 use Rattle.shape_files.specs.Views.{contents}
 use Rattle.commands.specs.Commands.{form_of, IsDocumentOf, IsDocumentFaultOf}
-use Rattle.commands.proofs.CommandDocuments.{least_is, late, of_form}
+use Rattle.commands.proofs.CommandDocuments.{late, of_form}
+use Rattle.commands.proofs.CommandRows.{row_is}
 use Rattle.commands.proofs.OwedTexts.{refuses}
 use Rattle.commands.proofs.tasks.task_of.Goals as goal
 
 pub read_whole-requires-clause-least : goal.read_whole-requires-clause-least
-read_whole-requires-clause-least c = subst (λ (n : ℕ). least_version ≤ n) (sym c.row_of.ensures.least) (least_is c.args.command)
+read_whole-requires-clause-least c = subst (λ (n : ℕ). least_version ≤ n) (sym c.row_of.ensures.least) (row_is c.args.command).least
 
 pub task_of_document-requires-clause-fits : goal.task_of_document-requires-clause-fits
 task_of_document-requires-clause-fits c =
