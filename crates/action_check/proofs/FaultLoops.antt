@@ -7,10 +7,10 @@ use Rattle.text_tokens.specs.declared.refusal.Refusal.{Refusal}
 use Rattle.action_tree.specs.declared.expression.Guard as code
 use Rattle.action_tree.specs.declared.expression.Part as code_part
 use Rattle.action_tree.specs.declared.statement.Stmt as code_stmt
-use Rattle.action_tree.specs.Views.{guards_of, term_of, terms_of, stmts_of}
+use Rattle.action_tree.specs.Views.{guard_of, guards_of, term_of, terms_of, stmts_of}
 use Rattle.action_tree.specs.Writable.{guards_names, sum_names, stmts_names}
 use Rattle.action_tree.specs.Scopes.{Scope, HasRoom, scope_after_all}
-use Rattle.action_check.specs.Faults.{guards_faults, sum_faults, term_faults, stmts_faults}
+use Rattle.action_check.specs.Faults.{guard_faults, guards_faults, sum_faults, term_faults, stmts_faults}
 use Rattle.action_check.specs.Told.{first_of}
 use Rattle.action_tree.proofs.Viewed.{part_opened}
 use Rattle.action_check.proofs.Firsts.{first_behind, first_before}
@@ -29,6 +29,20 @@ here xs i x l is = let e = drop_more xs i x l in cc
 
 abbrev pub GuardsLeft : Scope → List code.Guard → ℕ → Type 0
 GuardsLeft sc gs i = IsLeft (λ s hs. guards_faults s (guards_of hs)) (λ hs. guards_names (guards_of hs)) sc sc gs i
+
+pub guards_next : (sc : Scope) (gs : List code.Guard) (i : ℕ) (g : code.Guard) → GuardsLeft sc gs i → i < length gs → g ≡ get_or gs i g → first_of (guard_faults sc (guard_of g)) ≡ Ok tt → GuardsLeft sc gs (i + 1)
+guards_next sc gs i g left l is fine =
+    let room = rw (here gs i g l is) at left.room in
+    let told = rw (here gs i g l is) at left.told in
+    record { room = omega arith; told = told ∙ first_behind _ _ fine }
+
+pub guards_fail : (sc : Scope) (gs : List code.Guard) (i : ℕ) (g : code.Guard) (r : Refusal) → GuardsLeft sc gs i → i < length gs → g ≡ get_or gs i g → first_of (guard_faults sc (guard_of g)) ≡ Err r → first_of (guards_faults sc (guards_of gs)) ≡ Err r
+guards_fail sc gs i g r left l is wrong =
+    let told = rw (here gs i g l is) at left.told in
+    told ∙ first_before _ _ r wrong
+
+pub guards_over : (sc : Scope) (gs : List code.Guard) (i : ℕ) → GuardsLeft sc gs i → length gs ≤ i → first_of (guards_faults sc (guards_of gs)) ≡ Ok tt
+guards_over sc gs i left l = rw (drop_of_length-le gs l) at left.told
 
 -- ---- the parts of a sum
 

@@ -39,11 +39,25 @@ pub fn check_vars(alloc: Global, vars: &[Var]) -> Result<IndexSet<NameText>, Rea
     ensures wrong { IfErr result (TellsFirst (spec.vars_faults [] (map var_of vars.now))) }
 {
     let mut names = IndexSet::new(alloc);
+    declare_vars(&mut names, vars)?;
+    Ok(names)
+}
+
+/// Declares the variables behind these names.
+/// It owns no names that it would have to drop at a `?`, which leaves less to prove.
+fn declare_vars(names: &mut IndexSet<NameText>, vars: &[Var]) -> Result<(), ReadRefusal>
+    ensures fine { OnOk result (
+        first_of (spec.vars_faults (texts names.old.keys) (map var_of vars.now)) ≡ Ok tt) }
+    ensures names { OnOk result (
+        texts names.new.keys ≡ texts names.old.keys ++ names_of_vars (map var_of vars.now)) }
+    ensures wrong { IfErr result (
+        TellsFirst (spec.vars_faults (texts names.old.keys) (map var_of vars.now))) }
+{
     for var in vars {
-        declare(&mut names, &var.name)?;
+        declare(names, &var.name)?;
         within(MOST_VALUE, &var.max)?;
     }
-    Ok(names)
+    Ok(())
 }
 
 /// The actions of a program with these variables.
@@ -62,8 +76,26 @@ pub fn check_actions(
         [] (map action_of actions.now))) }
 {
     let mut names = IndexSet::new(alloc);
+    declare_actions(&mut names, actions, vars)
+}
+
+/// Declares the actions behind these names, and checks each.
+fn declare_actions(
+    names: &mut IndexSet<NameText>,
+    actions: &[Action],
+    vars: &IndexSet<NameText>,
+) -> Result<(), ReadRefusal>
+    requires { list_all is_action (map action_of actions.now) ≡ true }
+    ensures fine { OnOk result (
+        first_of (spec.actions_faults (record { vars = texts vars.now.keys; bound = [] })
+        (texts names.old.keys) (map action_of actions.now))
+        ≡ Ok tt) }
+    ensures wrong { IfErr result (TellsFirst (
+        spec.actions_faults (record { vars = texts vars.now.keys; bound = [] })
+        (texts names.old.keys) (map action_of actions.now))) }
+{
     for action in actions {
-        declare(&mut names, &action.name)?;
+        declare(names, &action.name)?;
         check_action(action, Scope::new(vars))?;
     }
     Ok(())

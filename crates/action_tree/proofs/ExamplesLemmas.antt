@@ -1,5 +1,5 @@
 -- What the reader answers, computed.
-use Rattle.std.proofs.Common.{◌≡◌, ℕ, Bool, true, false, List, [], ◌∷◌, map, Option, Some, None, Ok, Err, refl, subst}
+use Rattle.std.proofs.Common.{◌≡◌, ℕ, Bool, true, false, List, [], ◌∷◌, map, Option, Some, None, Ok, Err, refl, ap, subst}
 use Rattle.std.specs.Prelude.{codes}
 use Rattle.std.specs.List.{list_all}
 use Rattle.text_tokens.specs.Text.{Lexeme}
@@ -28,8 +28,18 @@ module _ {A : Type 0} (P : Lang A) (p : Reader A) (exact : Exact P p) (text : Li
   tells_so : (r : Answer A) → p (front_of text).last (front_of text).ahead ≡ r → Tells P (front_of text).last (front_of text).ahead r
   tells_so r e = subst (λ (s : Answer A). Tells P (front_of text).last (front_of text).ahead s) e (exact.tells (front_of text).last (front_of text).ahead)
 
-  pub is_read : (bare : A → A) (b a : A) → p (front_of text).last (front_of text).ahead ≡ Ok (b, []) → bare b ≡ a → IsRead P bare text a
-  is_read bare b a e f = (b, tells_so (Ok (b, [])) e, f)
+  -- what is read, without its lines: this keeps the term of an answer short, and computes it once
+  abbrev bared : (A → A) → Answer A → Answer A
+  bared bare (Ok r) = Ok (bare r.0, r.1)
+  bared bare (Err e) = Err e
+
+  pub read_as : (bare : A → A) (a : A) (r : Answer A) → p (front_of text).last (front_of text).ahead ≡ r → bared bare r ≡ Ok (a, []) → IsRead P bare text a
+  read_as bare a (Ok r) e f =
+      let both : (bare r.0, r.1) ≡ (a, []) = cc in
+      let over : r.1 ≡ [] = ap (λ (x : A × List Lexeme). x.1) both in
+      let same : bare r.0 ≡ a = ap (λ (x : A × List Lexeme). x.0) both in
+      (r.0, subst (λ (ts : List Lexeme). IsText P (front_of text).ahead r.0 ts) over (tells_so (Ok r) e), same)
+  read_as bare a (Err k) e f = absurd cc
 
   pub is_refused : (number : ℕ) (kind : RefusalKind) → p (front_of text).last (front_of text).ahead ≡ Err (record { line = number; kind = kind }) → IsRefusedText P text number kind
   is_refused number kind e = tells_so (Err (record { line = number; kind = kind })) e
@@ -76,15 +86,15 @@ module _ {A : Type 0} (P : Lang A) (p : Reader A) (exact : Exact P p) where
 
 line_is_read : IsRead IsProgram without_lines line_source line
 unfolding same_kind same_role role scan.skip scan.ready scan.sign_len scan.front scan.scan scan.scan_end scan.ahead_of scan.last_of one_within either by_role limited elements repeated a_selection a_port a_term a_minus a_sum a_unit a_conj an_expr inside an_if a_for a_stmt all_stmts stmts_inside a_move an_action a_var a_guarded a_program
-line_is_read = is_read IsProgram a_program exact_program line_source without_lines _ line refl refl
+line_is_read = read_as IsProgram a_program exact_program line_source without_lines line _ refl refl
 
 erosion_is_read : IsRead IsProgram without_lines erosion_text erosion
 unfolding same_kind same_role role scan.skip scan.ready scan.sign_len scan.front scan.scan scan.scan_end scan.ahead_of scan.last_of one_within either by_role limited elements repeated a_selection a_port a_term a_minus a_sum a_unit a_conj an_expr inside an_if a_for a_stmt all_stmts stmts_inside a_move an_action a_var a_guarded a_program
-erosion_is_read = is_read IsProgram a_program exact_program erosion_text without_lines _ erosion refl refl
+erosion_is_read = read_as IsProgram a_program exact_program erosion_text without_lines erosion _ refl refl
 
 every_form_is_read : IsRead IsProgram without_lines every_form_text every_form
 unfolding same_kind same_role role scan.skip scan.ready scan.sign_len scan.front scan.scan scan.scan_end scan.ahead_of scan.last_of one_within either by_role limited elements repeated a_selection a_port a_term a_minus a_sum a_unit a_conj an_expr inside an_if a_for a_stmt all_stmts stmts_inside a_move an_action a_var a_guarded a_program
-every_form_is_read = is_read IsProgram a_program exact_program every_form_text without_lines _ every_form refl refl
+every_form_is_read = read_as IsProgram a_program exact_program every_form_text without_lines every_form _ refl refl
 
 programs_refused : AreRefused IsProgram wrong_programs
 unfolding same_kind same_role role scan.skip scan.ready scan.sign_len scan.front scan.scan scan.scan_end scan.ahead_of scan.last_of one_within either by_role limited elements repeated a_selection a_port a_term a_minus a_sum a_unit a_conj an_expr inside an_if a_for a_stmt all_stmts stmts_inside a_move an_action a_var a_guarded a_program
@@ -139,12 +149,12 @@ limits_are_kept = record { levels = levels_kept; deeper = deeper_kept; names = n
 pub trees_are_read : TreesAreRead
 unfolding same_kind same_role role scan.skip scan.ready scan.sign_len scan.front scan.scan scan.scan_end scan.ahead_of scan.last_of one_within either by_role limited elements repeated a_selection a_port a_term a_minus a_sum a_unit a_conj an_expr inside an_if a_for a_stmt all_stmts stmts_inside a_move an_action a_var a_guarded a_program
 trees_are_read = record {
-  binding = is_read (IsExpr 1 0) (expr_at 1 0) (exact_expr 1 0) (codes "true or not x = 0 and false") bare_guard _ _ refl refl;
-  grouped = is_read (IsExpr 2 0) (expr_at 2 0) (exact_expr 2 0) (codes "( true or false ) or ( true ) and ( ( true ) )") bare_guard _ _ refl refl;
-  minus = is_read (IsExpr 0 0) (expr_at 0 0) (exact_expr 0 0) (codes "- x + p . x - 1 = 0") bare_guard _ _ refl refl;
-  lines = is_read (IsStmts 0 1) (stmts_at 0 1) (exact_stmts 0 1) (codes "let q := p ; x := 007") (λ s. s) _ _ refl refl;
-  nothing = is_read IsProgram a_program exact_program (codes "program end") without_lines _ _ refl refl;
-  little = is_read IsProgram a_program exact_program (codes "program action a when true move none end") without_lines _ _ refl refl;
+  binding = read_as (IsExpr 1 0) (expr_at 1 0) (exact_expr 1 0) (codes "true or not x = 0 and false") bare_guard _ _ refl refl;
+  grouped = read_as (IsExpr 2 0) (expr_at 2 0) (exact_expr 2 0) (codes "( true or false ) or ( true ) and ( ( true ) )") bare_guard _ _ refl refl;
+  minus = read_as (IsExpr 0 0) (expr_at 0 0) (exact_expr 0 0) (codes "- x + p . x - 1 = 0") bare_guard _ _ refl refl;
+  lines = read_as (IsStmts 0 1) (stmts_at 0 1) (exact_stmts 0 1) (codes "let q := p ; x := 007") (λ s. s) _ _ refl refl;
+  nothing = read_as IsProgram a_program exact_program (codes "program end") without_lines _ _ refl refl;
+  little = read_as IsProgram a_program exact_program (codes "program action a when true move none end") without_lines _ _ refl refl;
 }
 
 pub samples_are_read : ExamplesAreRead

@@ -3,9 +3,12 @@
 use Rattle.std.proofs.Common.{◌≡◌, ◌∙◌, Vec, Box, true, ap, sym}
 use Rattle.std.proofs.lemmas.Bool.{and_from}
 use Rattle.std.specs.declared.alloc.Global.{Global}
+use Rattle.amoebot_state.specs.declared.bot.End.{End}
 use Rattle.action_tree.specs.declared.word.Word.{Word}
+use Rattle.action_tree.specs.declared.word.Lit.{Lit}
 use Rattle.action_tree.specs.declared.expression.PortSet.{PortSet}
 use Rattle.action_tree.specs.declared.expression.Cmp.{Cmp}
+use Rattle.action_tree.specs.declared.expression.DirTerm.{DirTerm}
 use Rattle.action_tree.specs.declared.expression.Guard.{Guard}
 use Rattle.action_tree.specs.declared.expression.Guard.TheVariants as guard
 use Rattle.action_tree.specs.declared.expression.PortExpr.{PortExpr}
@@ -15,10 +18,10 @@ use Rattle.action_tree.specs.declared.expression.Term.{Term}
 use Rattle.action_tree.specs.declared.expression.Term.TheVariants as term
 use Rattle.action_tree.specs.declared.expression.Guard.TheOpen.{Guard-F, PortExpr-F, Term-F}
 use Rattle.action_tree.specs.declared.expression.Guard.TheFolds.{fold-roll-Guard, fold-roll-PortExpr, fold-roll-Term}
-use Rattle.action_tree.specs.Places.{Placing, guard_placing, port_placing, term_placing, part_placing, sum_placing, is_at_place, guard_placed, guards_placed, port_placed, term_placed, sum_placed}
+use Rattle.action_tree.specs.Places.{Placing, guard_placing, port_placing, term_placing, part_placing, sum_placing, is_at_place, dirterm_placed, guard_placed, guards_placed, port_placed, term_placed, sum_placed}
 use Rattle.action_tree.specs.Scopes.{Scope, scope_with}
-use Rattle.action_tree.specs.Views.{name_of, guard_of, guards_of, port_of, term_of, sum_of}
-use Rattle.action_tree.proofs.Viewed.{guard_and, guard_or, guard_any, guard_all, guard_linked, guard_free, guard_at_head, guard_peer_expanded, guard_peer_head, guard_compare, term_member, term_count, port_first}
+use Rattle.action_tree.specs.Views.{name_of, dirterm_of, guard_of, guards_of, port_of, term_of, sum_of}
+use Rattle.action_tree.proofs.Viewed.{guard_not, guard_and, guard_or, guard_any, guard_all, guard_linked, guard_free, guard_at_head, guard_peer_expanded, guard_peer_head, guard_compare, term_own, term_member, term_count, term_dir, term_peer_dir, term_mod6, port_name, port_at, port_turn, port_first}
 
 pub and_same : (s : Guard) (v x : Vec Guard Global) → s ≡ guard.And v → guards_of x.items ≡ guards_of v.items → guard_of (guard.And x) ≡ guard_of s
 and_same s v x is same = let old = guard_and v in let new = guard_and x in cc
@@ -110,3 +113,83 @@ first_same s w p a b is same = let old = port_first w p a in let new = port_firs
 pub first_placed : (w : Word) (p : PortSet) (b : Box Guard Global) (sc : Scope) → guard_placed b.value (scope_with sc (name_of w)) ≡ true → port_placed (port.First w p b) sc ≡ true
 first_placed w p b sc fine =
     ap (λ (f : Placing). f sc) (ap port_placed (sym (port.rolls-First w p b)) ∙ fold-roll-PortExpr Placing Placing Placing Placing Placing guard_placing port_placing term_placing part_placing sum_placing (PortExpr-F.First w p b)) ∙ fine
+
+pub true_placed : (sc : Scope) → guard_placed guard.True sc ≡ true
+true_placed sc =
+    ap (λ (f : Placing). f sc) (ap guard_placed (sym guard.rolls-True) ∙ fold-roll-Guard Placing Placing Placing Placing Placing guard_placing port_placing term_placing part_placing sum_placing Guard-F.True)
+
+pub false_placed : (sc : Scope) → guard_placed guard.False sc ≡ true
+false_placed sc =
+    ap (λ (f : Placing). f sc) (ap guard_placed (sym guard.rolls-False) ∙ fold-roll-Guard Placing Placing Placing Placing Placing guard_placing port_placing term_placing part_placing sum_placing Guard-F.False)
+
+pub contracted_placed : (sc : Scope) → guard_placed guard.Contracted sc ≡ true
+contracted_placed sc =
+    ap (λ (f : Placing). f sc) (ap guard_placed (sym guard.rolls-Contracted) ∙ fold-roll-Guard Placing Placing Placing Placing Placing guard_placing port_placing term_placing part_placing sum_placing Guard-F.Contracted)
+
+pub expanded_placed : (sc : Scope) → guard_placed guard.Expanded sc ≡ true
+expanded_placed sc =
+    ap (λ (f : Placing). f sc) (ap guard_placed (sym guard.rolls-Expanded) ∙ fold-roll-Guard Placing Placing Placing Placing Placing guard_placing port_placing term_placing part_placing sum_placing Guard-F.Expanded)
+
+pub not_same : (s : Guard) (a b : Box Guard Global) → s ≡ guard.Not a → guard_of b.value ≡ guard_of a.value → guard_of (guard.Not b) ≡ guard_of s
+not_same s a b is same = let old = guard_not a in let new = guard_not b in cc
+
+pub not_placed : (b : Box Guard Global) (sc : Scope) → guard_placed b.value sc ≡ true → guard_placed (guard.Not b) sc ≡ true
+not_placed b sc f0 =
+    ap (λ (f : Placing). f sc) (ap guard_placed (sym (guard.rolls-Not b)) ∙ fold-roll-Guard Placing Placing Placing Placing Placing guard_placing port_placing term_placing part_placing sum_placing (Guard-F.Not b)) ∙ f0
+
+pub number_placed : (n : Lit) (sc : Scope) → term_placed (term.Number n) sc ≡ true
+number_placed n sc =
+    ap (λ (f : Placing). f sc) (ap term_placed (sym (term.rolls-Number n)) ∙ fold-roll-Term Placing Placing Placing Placing Placing guard_placing port_placing term_placing part_placing sum_placing (Term-F.Number n))
+
+pub own_same : (s : Term) (w v : Word) → s ≡ term.Own w → name_of v ≡ name_of w → term_of (term.Own v) ≡ term_of s
+own_same s w v is same = let old = term_own w in let new = term_own v in cc
+
+pub own_placed : (w : Word) (sc : Scope) → is_at_place sc.vars w ≡ true → term_placed (term.Own w) sc ≡ true
+own_placed w sc f0 =
+    ap (λ (f : Placing). f sc) (ap term_placed (sym (term.rolls-Own w)) ∙ fold-roll-Term Placing Placing Placing Placing Placing guard_placing port_placing term_placing part_placing sum_placing (Term-F.Own w)) ∙ f0
+
+pub dir_same : (s : Term) (p q : PortExpr) → s ≡ term.Dir p → port_of q ≡ port_of p → term_of (term.Dir q) ≡ term_of s
+dir_same s p q is same = let old = term_dir p in let new = term_dir q in cc
+
+pub dir_placed : (p : PortExpr) (sc : Scope) → port_placed p sc ≡ true → term_placed (term.Dir p) sc ≡ true
+dir_placed p sc f0 =
+    ap (λ (f : Placing). f sc) (ap term_placed (sym (term.rolls-Dir p)) ∙ fold-roll-Term Placing Placing Placing Placing Placing guard_placing port_placing term_placing part_placing sum_placing (Term-F.Dir p)) ∙ f0
+
+pub peer_dir_same : (s : Term) (p q : PortExpr) → s ≡ term.PeerDir p → port_of q ≡ port_of p → term_of (term.PeerDir q) ≡ term_of s
+peer_dir_same s p q is same = let old = term_peer_dir p in let new = term_peer_dir q in cc
+
+pub peer_dir_placed : (p : PortExpr) (sc : Scope) → port_placed p sc ≡ true → term_placed (term.PeerDir p) sc ≡ true
+peer_dir_placed p sc f0 =
+    ap (λ (f : Placing). f sc) (ap term_placed (sym (term.rolls-PeerDir p)) ∙ fold-roll-Term Placing Placing Placing Placing Placing guard_placing port_placing term_placing part_placing sum_placing (Term-F.PeerDir p)) ∙ f0
+
+pub inner_placed : (sc : Scope) → term_placed term.Inner sc ≡ true
+inner_placed sc =
+    ap (λ (f : Placing). f sc) (ap term_placed (sym term.rolls-Inner) ∙ fold-roll-Term Placing Placing Placing Placing Placing guard_placing port_placing term_placing part_placing sum_placing Term-F.Inner)
+
+pub mod6_same : (s : Term) (a b : Sum) → s ≡ term.Mod6 a → sum_of b ≡ sum_of a → term_of (term.Mod6 b) ≡ term_of s
+mod6_same s a b is same = let old = term_mod6 a in let new = term_mod6 b in cc
+
+pub mod6_placed : (a : Sum) (sc : Scope) → sum_placed a sc ≡ true → term_placed (term.Mod6 a) sc ≡ true
+mod6_placed a sc f0 =
+    ap (λ (f : Placing). f sc) (ap term_placed (sym (term.rolls-Mod6 a)) ∙ fold-roll-Term Placing Placing Placing Placing Placing guard_placing port_placing term_placing part_placing sum_placing (Term-F.Mod6 a)) ∙ f0
+
+pub bound_same : (s : PortExpr) (w v : Word) → s ≡ port.Name w → name_of v ≡ name_of w → port_of (port.Name v) ≡ port_of s
+bound_same s w v is same = let old = port_name w in let new = port_name v in cc
+
+pub bound_placed : (w : Word) (sc : Scope) → is_at_place sc.bound w ≡ true → port_placed (port.Name w) sc ≡ true
+bound_placed w sc f0 =
+    ap (λ (f : Placing). f sc) (ap port_placed (sym (port.rolls-Name w)) ∙ fold-roll-PortExpr Placing Placing Placing Placing Placing guard_placing port_placing term_placing part_placing sum_placing (PortExpr-F.Name w)) ∙ f0
+
+pub at_same : (s : PortExpr) (e : End) (a b : DirTerm) → s ≡ port.At e a → dirterm_of b ≡ dirterm_of a → port_of (port.At e b) ≡ port_of s
+at_same s e a b is same = let old = port_at e a in let new = port_at e b in cc
+
+pub at_placed : (e : End) (d : DirTerm) (sc : Scope) → dirterm_placed d sc ≡ true → port_placed (port.At e d) sc ≡ true
+at_placed e d sc f0 =
+    ap (λ (f : Placing). f sc) (ap port_placed (sym (port.rolls-At e d)) ∙ fold-roll-PortExpr Placing Placing Placing Placing Placing guard_placing port_placing term_placing part_placing sum_placing (PortExpr-F.At e d)) ∙ f0
+
+pub turn_same : (s : PortExpr) (a b : Box PortExpr Global) (n : Lit) → s ≡ port.Turn a n → port_of b.value ≡ port_of a.value → port_of (port.Turn b n) ≡ port_of s
+turn_same s a b n is same = let old = port_turn a n in let new = port_turn b n in cc
+
+pub turn_placed : (b : Box PortExpr Global) (n : Lit) (sc : Scope) → port_placed b.value sc ≡ true → port_placed (port.Turn b n) sc ≡ true
+turn_placed b n sc f0 =
+    ap (λ (f : Placing). f sc) (ap port_placed (sym (port.rolls-Turn b n)) ∙ fold-roll-PortExpr Placing Placing Placing Placing Placing guard_placing port_placing term_placing part_placing sum_placing (PortExpr-F.Turn b n)) ∙ f0

@@ -73,6 +73,12 @@ term_member p w = ap term_of (sym (term.rolls-Of p w)) ∙ fold-roll-Term tree.G
 pub term_count : (w : Word) (s : PortSet) (b : Box Guard Global) → term_of (term.Count w s b) ≡ tree.count (name_of w) s (guard_of b.value)
 term_count w s b = ap term_of (sym (term.rolls-Count w s b)) ∙ fold-roll-Term tree.Guard tree.PortExpr tree.Term tree.Part tree.Sum guard_step port_step term_step part_step sum_step (Term-F.Count w s b)
 
+pub term_dir : (p : PortExpr) → term_of (term.Dir p) ≡ tree.direction tree.own_side (port_of p)
+term_dir p = ap term_of (sym (term.rolls-Dir p)) ∙ fold-roll-Term tree.Guard tree.PortExpr tree.Term tree.Part tree.Sum guard_step port_step term_step part_step sum_step (Term-F.Dir p)
+
+pub term_peer_dir : (p : PortExpr) → term_of (term.PeerDir p) ≡ tree.direction tree.peer_side (port_of p)
+term_peer_dir p = ap term_of (sym (term.rolls-PeerDir p)) ∙ fold-roll-Term tree.Guard tree.PortExpr tree.Term tree.Part tree.Sum guard_step port_step term_step part_step sum_step (Term-F.PeerDir p)
+
 pub term_inner : term_of term.Inner ≡ tree.inner
 term_inner = ap term_of (sym term.rolls-Inner) ∙ fold-roll-Term tree.Guard tree.PortExpr tree.Term tree.Part tree.Sum guard_step port_step term_step part_step sum_step Term-F.Inner
 

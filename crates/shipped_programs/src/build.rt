@@ -30,18 +30,31 @@ pub(crate) fn q() -> PortExpr
     PortExpr::Name(Word::new(b"q", 0))
 }
 
-/// A part, and the next one where that was made.
-/// A caller that puts its part in here owns none at its `?`, which leaves it less to prove.
-pub(crate) fn beside<A: Drop, B: Drop>(
-    before: A,
-    next: Result<B, AllocError>,
+/// Two parts, where both were made.
+/// A caller that gets its parts by this owns none at its `?`, which leaves it less to prove.
+pub(crate) fn pair<A: Drop, B: Drop>(
+    one: Result<A, AllocError>,
+    two: Result<B, AllocError>,
 ) -> Result<(A, B), AllocError>
-    ensures { IfOk result (λ r. (r.0 ≡ before) × (next ≡ Ok r.1)) }
+    ensures { IfOk result (λ r. (one ≡ Ok r.0) × (two ≡ Ok r.1)) }
 {
-    match next {
-        Ok(next) => Ok((before, next)),
+    let one = one?;
+    match two {
+        Ok(two) => Ok((one, two)),
         Err(error) => Err(error),
     }
+}
+
+/// Three parts, where all were made.
+pub(crate) fn triple<A: Drop, B: Drop, C: Drop>(
+    one: Result<A, AllocError>,
+    two: Result<B, AllocError>,
+    three: Result<C, AllocError>,
+) -> Result<(A, B, C), AllocError>
+    ensures { IfOk result (λ r. (one ≡ Ok r.0) × (two ≡ Ok r.1) × (three ≡ Ok r.2)) }
+{
+    let (one, (two, three)) = pair(one, pair(two, three))?;
+    Ok((one, two, three))
 }
 
 /// A sum of one term.
@@ -65,8 +78,8 @@ pub(crate) fn is(alloc: Global, term: Term, value: u32) -> Result<Guard, AllocEr
     ensures { IfOk result (λ g.
         guard_of g ≡ sample.equals (term_of term) (tree.number (sample.literal value))) }
 {
-    let left = one(alloc, term)?;
-    Ok(Guard::Compare(left, Cmp::Eq, number(alloc, value)?))
+    let (left, right) = pair(one(alloc, term), number(alloc, value))?;
+    Ok(Guard::Compare(left, Cmp::Eq, right))
 }
 
 /// `not GUARD`
@@ -145,6 +158,13 @@ pub(crate) fn set_to(alloc: Global, name: Word, value: u32) -> Result<Stmt, Allo
         stmt_of s ≡ tree.put (name_of name) (sample.sum_of_term (tree.number (sample.literal value)))) }
 {
     Ok(Stmt::Put(name, number(alloc, value)?))
+}
+
+/// One statement alone.
+pub(crate) fn one_stmt(alloc: Global, stmt: Stmt) -> Result<Vec<Stmt>, AllocError>
+    ensures { IfOk result (λ ss. map stmt_of ss.items ≡ stmt_of stmt ∷ []) }
+{
+    Ok(vec![in alloc; stmt]?)
 }
 
 /// `STATEMENT ; STATEMENT`

@@ -7,7 +7,9 @@ ghost use Rattle.action_tree.specs.declared.expression.PortSet.TheVariants.{Port
 ghost use Rattle.action_tree.specs.Shipped as sample;
 ghost use Rattle.shipped_programs.specs.Shipped.{run_ends, erode_guard, erode_body};
 
-use crate::build::{action, all_three, beside, both, is, not, p, set_to, some_port, turned, var};
+use crate::build::{
+    action, all_three, both, is, not, one_stmt, p, pair, set_to, some_port, triple, turned, var,
+};
 use action_tree::{Action, Guard, Move, PortExpr, PortSet, Program, Stmt, Term, Var, Word};
 use std::alloc::{AllocError, Global};
 
@@ -15,7 +17,8 @@ use std::alloc::{AllocError, Global};
 pub(crate) fn erosion(alloc: Global) -> Result<Program, AllocError>
     ensures { IfOk result (λ p. p ≡ sample.erosion) }
 {
-    Ok(Program::make(false, vars(alloc)?, actions(alloc)?))
+    let (vars, actions) = pair(vars(alloc), actions(alloc))?;
+    Ok(Program::make(false, vars, actions))
 }
 
 fn vars(alloc: Global) -> Result<Vec<Var>, AllocError>
@@ -27,7 +30,8 @@ fn vars(alloc: Global) -> Result<Vec<Var>, AllocError>
 fn actions(alloc: Global) -> Result<Vec<Action>, AllocError>
     ensures { IfOk result (λ actions. map action_of actions.items ≡ sample.erosion.actions) }
 {
-    Ok(vec![in alloc; lead(alloc)?, erode(alloc)?]?)
+    let (lead, erode) = pair(lead(alloc), erode(alloc))?;
+    Ok(vec![in alloc; lead, erode]?)
 }
 
 fn cand() -> Word
@@ -52,8 +56,7 @@ fn is_candidate(alloc: Global, port: PortExpr) -> Result<Guard, AllocError>
 fn lead(alloc: Global) -> Result<Action, AllocError>
     ensures { IfOk result (λ a. action_of a ∷ [] ≡ take 1 sample.erosion.actions) }
 {
-    let body = lead_body(alloc)?;
-    let guard = lead_guard(alloc)?;
+    let (body, guard) = pair(lead_body(alloc), lead_guard(alloc))?;
     Ok(action(Word::new(b"lead", 0), guard, body, Move::None))
 }
 
@@ -63,7 +66,7 @@ fn lead_body(alloc: Global) -> Result<Vec<Stmt>, AllocError>
         ≡ tree.put (sample.example_name (codes "leader")) (sample.sum_of_term (
         tree.number (sample.literal 1))) ∷ []) }
 {
-    Ok(vec![in alloc; set_to(alloc, leader(), 1)?]?)
+    one_stmt(alloc, set_to(alloc, leader(), 1)?)
 }
 
 /// `cand = 1 and leader = 0 and not any p in ports ( p . cand = 1 )`
@@ -73,11 +76,10 @@ fn lead_guard(alloc: Global) -> Result<Guard, AllocError>
         ≡ sample.and (sample.own_is (codes "cand") 1 ∷ sample.own_is (codes "leader") 0
         ∷ tree.negation (sample.some_port (sample.there_is sample.p (codes "cand") 1)) ∷ [])) }
 {
-    let alone = no_other(alloc)?;
-    let (alone, candidate) = beside(alone, is(alloc, Term::Own(cand()), 1))?;
-    let ((alone, candidate), no_leader) = beside(
-        (alone, candidate),
+    let (candidate, no_leader, alone) = triple(
+        is(alloc, Term::Own(cand()), 1),
         is(alloc, Term::Own(leader()), 0),
+        no_other(alloc),
     )?;
     all_three(alloc, candidate, no_leader, alone)
 }
@@ -95,23 +97,22 @@ fn erode(alloc: Global) -> Result<Action, AllocError>
     ensures { IfOk result (λ a.
         action_of a ≡ sample.action (codes "erode") erode_guard erode_body tree.no_move) }
 {
-    let body = erode_body(alloc)?;
-    let guard = erode_guard(alloc)?;
+    let (body, guard) = pair(erode_body(alloc), erode_guard(alloc))?;
     Ok(action(Word::new(b"erode", 0), guard, body, Move::None))
 }
 
 fn erode_guard(alloc: Global) -> Result<Guard, AllocError>
     ensures { IfOk result (λ g. guard_of g ≡ erode_guard) }
 {
-    let once = is(alloc, ends(alloc)?, 1)?;
-    let candidate = is(alloc, Term::Own(cand()), 1)?;
+    let ends = ends(alloc)?;
+    let (candidate, once) = pair(is(alloc, Term::Own(cand()), 1), is(alloc, ends, 1))?;
     both(alloc, candidate, once)
 }
 
 fn erode_body(alloc: Global) -> Result<Vec<Stmt>, AllocError>
     ensures { IfOk result (λ ss. map stmt_of ss.items ≡ erode_body) }
 {
-    Ok(vec![in alloc; set_to(alloc, cand(), 0)?]?)
+    one_stmt(alloc, set_to(alloc, cand(), 0)?)
 }
 
 /// `count p in ports ( GUARD )`, for the ends of runs
@@ -126,8 +127,8 @@ fn ends(alloc: Global) -> Result<Term, AllocError>
 fn ends_a_run(alloc: Global) -> Result<Guard, AllocError>
     ensures { IfOk result (λ g. guard_of g ≡ run_ends) }
 {
-    let last = not(alloc, candidate_follows(alloc)?)?;
-    let candidate = is_candidate(alloc, p())?;
+    let follows = candidate_follows(alloc)?;
+    let (candidate, last) = pair(is_candidate(alloc, p()), not(alloc, follows))?;
     both(alloc, candidate, last)
 }
 
@@ -138,7 +139,14 @@ fn candidate_follows(alloc: Global) -> Result<Guard, AllocError>
         ≡ sample.and (tree.tested tree.linked (tree.turned sample.p (sample.literal 1))
         ∷ sample.there_is (tree.turned sample.p (sample.literal 1)) (codes "cand") 1 ∷ [])) }
 {
-    let port = turned(alloc, p(), 1)?;
-    let next = is_candidate(alloc, turned(alloc, p(), 1)?)?;
-    both(alloc, Guard::Linked(port), next)
+    let (linked, next) = pair(turned(alloc, p(), 1), next_is_candidate(alloc))?;
+    both(alloc, Guard::Linked(linked), next)
+}
+
+/// `turn p 1 . cand = 1`
+fn next_is_candidate(alloc: Global) -> Result<Guard, AllocError>
+    ensures { IfOk result (λ g.
+        guard_of g ≡ sample.there_is (tree.turned sample.p (sample.literal 1)) (codes "cand") 1) }
+{
+    is_candidate(alloc, turned(alloc, p(), 1)?)
 }

@@ -11,8 +11,8 @@ ghost use Rattle.shipped_programs.specs.Shipped.{drag_guard, drag_body, tail_fol
 ghost use Rattle.shipped_programs.specs.Shipped.{rest_guard, waits, head_follower};
 
 use crate::build::{
-    action, all_four, all_three, beside, both, either, first_port, is, literal, not, number, one,
-    p, q, some_port, three_stmts, turned, two_stmts, var,
+    action, all_four, all_three, both, either, first_port, is, literal, not, number, one, p, pair,
+    q, some_port, three_stmts, triple, turned, two_stmts, var,
 };
 use action_tree::{Action, Cmp, Guard, Move, Part, PortExpr, Program, Stmt, Sum, Term, Var, Word};
 use amoebot_state::End;
@@ -22,7 +22,8 @@ use std::alloc::{AllocError, Global};
 pub(crate) fn hexagon(alloc: Global) -> Result<Program, AllocError>
     ensures { IfOk result (λ p. p ≡ sample.hexagon) }
 {
-    Ok(Program::make(false, vars(alloc)?, actions(alloc)?))
+    let (vars, actions) = pair(vars(alloc), actions(alloc))?;
+    Ok(Program::make(false, vars, actions))
 }
 
 fn vars(alloc: Global) -> Result<Vec<Var>, AllocError>
@@ -76,8 +77,7 @@ fn p_is(alloc: Global, one: u32, two: u32) -> Result<Guard, AllocError>
         ≡ sample.or (sample.there_is sample.p (codes "state") one
         ∷ sample.there_is sample.p (codes "state") two ∷ [])) }
 {
-    let one = state_is(alloc, p(), one)?;
-    let two = state_is(alloc, p(), two)?;
+    let (one, two) = pair(state_is(alloc, p(), one), state_is(alloc, p(), two))?;
     either(alloc, one, two)
 }
 
@@ -103,8 +103,7 @@ fn in_state(alloc: Global, one: u32, two: u32) -> Result<Guard, AllocError>
     ensures { IfOk result (λ g.
         guard_of g ≡ sample.or (sample.own_is (codes "state") one ∷ sample.own_is (codes "state") two ∷ [])) }
 {
-    let one = own_state_is(alloc, one)?;
-    let two = own_state_is(alloc, two)?;
+    let (one, two) = pair(own_state_is(alloc, one), own_state_is(alloc, two))?;
     either(alloc, one, two)
 }
 
@@ -114,32 +113,32 @@ fn points_here(alloc: Global, name: Word) -> Result<Guard, AllocError>
         guard_of g ≡ sample.equals (tree.of_port sample.p (name_of name))
         (tree.direction tree.peer_side sample.p)) }
 {
-    let here = one(alloc, Term::PeerDir(p()))?;
-    Ok(Guard::Compare(one(alloc, Term::Of(p(), name))?, Cmp::Eq, here))
+    let (told, here) = pair(
+        one(alloc, Term::Of(p(), name)),
+        one(alloc, Term::PeerDir(p())),
+    )?;
+    Ok(Guard::Compare(told, Cmp::Eq, here))
 }
 
 fn root(alloc: Global) -> Result<Action, AllocError>
     ensures { IfOk result (λ a.
         action_of a ≡ sample.action (codes "root") root_guard root_body tree.no_move) }
 {
-    let body = root_body(alloc)?;
-    let guard = root_guard(alloc)?;
+    let (body, guard) = pair(root_body(alloc), root_guard(alloc))?;
     Ok(action(Word::new(b"root", 0), guard, body, Move::None))
 }
 
 fn root_guard(alloc: Global) -> Result<Guard, AllocError>
     ensures { IfOk result (λ g. guard_of g ≡ root_guard) }
 {
-    let waiting = in_state(alloc, 0, 2)?;
-    let beside = some_p_is(alloc, 1, 4)?;
+    let (waiting, beside) = pair(in_state(alloc, 0, 2), some_p_is(alloc, 1, 4))?;
     all_three(alloc, Guard::Contracted, waiting, beside)
 }
 
 fn root_body(alloc: Global) -> Result<Vec<Stmt>, AllocError>
     ensures { IfOk result (λ ss. map stmt_of ss.items ≡ root_body) }
 {
-    let no_port = number(alloc, 6)?;
-    let root = number(alloc, 3)?;
+    let (no_port, root) = pair(number(alloc, 6), number(alloc, 3))?;
     two_stmts(
         alloc,
         Stmt::Put(parent(), no_port),
@@ -151,16 +150,14 @@ fn follow(alloc: Global) -> Result<Action, AllocError>
     ensures { IfOk result (λ a.
         action_of a ≡ sample.action (codes "follow") follow_guard follow_body tree.no_move) }
 {
-    let body = follow_body(alloc)?;
-    let guard = follow_guard(alloc)?;
+    let (body, guard) = pair(follow_body(alloc), follow_guard(alloc))?;
     Ok(action(Word::new(b"follow", 0), guard, body, Move::None))
 }
 
 fn follow_guard(alloc: Global) -> Result<Guard, AllocError>
     ensures { IfOk result (λ g. guard_of g ≡ follow_guard) }
 {
-    let idle = own_state_is(alloc, 0)?;
-    let beside = some_p_is(alloc, 2, 3)?;
+    let (idle, beside) = pair(own_state_is(alloc, 0), some_p_is(alloc, 2, 3))?;
     all_three(alloc, Guard::Contracted, idle, beside)
 }
 
@@ -185,9 +182,11 @@ fn let_and_put(
         ∷ tree.put (sample.example_name (codes "state")) (sample.sum_of_term (
         tree.number (sample.literal next))) ∷ []) }
 {
-    let port = first_port(alloc, guard)?;
-    let value = one(alloc, term)?;
-    let next = number(alloc, next)?;
+    let (port, value, next) = triple(
+        first_port(alloc, guard),
+        one(alloc, term),
+        number(alloc, next),
+    )?;
     three_stmts(
         alloc,
         Stmt::Let(Word::new(b"q", 0), port),
@@ -208,8 +207,7 @@ fn retire(alloc: Global) -> Result<Action, AllocError>
     ensures { IfOk result (λ a.
         action_of a ≡ sample.action (codes "retire") retire_guard retire_body tree.no_move) }
 {
-    let body = retire_body(alloc)?;
-    let guard = retire_guard(alloc)?;
+    let (body, guard) = pair(retire_body(alloc), retire_guard(alloc))?;
     Ok(action(Word::new(b"retire", 0), guard, body, Move::None))
 }
 
@@ -226,8 +224,7 @@ fn root_beside(alloc: Global, asked: Guard) -> Result<Guard, AllocError>
         ≡ sample.and (tree.atom tree.contracted ∷ sample.own_is (codes "state") 3
         ∷ sample.some_port (guard_of asked) ∷ [])) }
 {
-    let beside = some_port(alloc, asked)?;
-    let root = own_state_is(alloc, 3)?;
+    let (root, beside) = pair(own_state_is(alloc, 3), some_port(alloc, asked))?;
     all_three(alloc, Guard::Contracted, root, beside)
 }
 
@@ -235,16 +232,14 @@ fn root_beside(alloc: Global, asked: Guard) -> Result<Guard, AllocError>
 fn aimed_at(alloc: Global) -> Result<Guard, AllocError>
     ensures { IfOk result (λ g. guard_of g ≡ aimed_at) }
 {
-    let still = p_is(alloc, 1, 4)?;
-    let here = points_here(alloc, aim())?;
+    let (still, here) = pair(p_is(alloc, 1, 4), points_here(alloc, aim()))?;
     both(alloc, still, here)
 }
 
 fn retire_body(alloc: Global) -> Result<Vec<Stmt>, AllocError>
     ensures { IfOk result (λ ss. map stmt_of ss.items ≡ retire_body) }
 {
-    let last = last_retired(alloc)?;
-    let port = turned(alloc, q(), 5)?;
+    let (last, port) = pair(last_retired(alloc), turned(alloc, q(), 5))?;
     let_and_put(alloc, last, aim(), Term::Dir(port), 4)
 }
 
@@ -253,8 +248,8 @@ fn retire_body(alloc: Global) -> Result<Vec<Stmt>, AllocError>
 fn last_retired(alloc: Global) -> Result<Guard, AllocError>
     ensures { IfOk result (λ g. guard_of g ≡ last_retired) }
 {
-    let last = not(alloc, still_follows(alloc)?)?;
-    let still = p_is(alloc, 1, 4)?;
+    let follows = still_follows(alloc)?;
+    let (still, last) = pair(p_is(alloc, 1, 4), not(alloc, follows))?;
     both(alloc, still, last)
 }
 
@@ -264,8 +259,7 @@ fn still_follows(alloc: Global) -> Result<Guard, AllocError>
         guard_of g ≡ sample.and (
         tree.tested tree.linked (tree.turned sample.p (sample.literal 5)) ∷ next_is_still ∷ [])) }
 {
-    let port = turned(alloc, p(), 5)?;
-    let still = next_is_still(alloc)?;
+    let (port, still) = pair(turned(alloc, p(), 5), next_is_still(alloc))?;
     both(alloc, Guard::Linked(port), still)
 }
 
@@ -273,8 +267,7 @@ fn still_follows(alloc: Global) -> Result<Guard, AllocError>
 fn next_is_still(alloc: Global) -> Result<Guard, AllocError>
     ensures { IfOk result (λ g. guard_of g ≡ next_is_still) }
 {
-    let seed = next_is(alloc, 1)?;
-    let retired = next_is(alloc, 4)?;
+    let (seed, retired) = pair(next_is(alloc, 1), next_is(alloc, 4))?;
     either(alloc, seed, retired)
 }
 
@@ -292,13 +285,21 @@ fn go(alloc: Global) -> Result<Action, AllocError>
         ≡ sample.action (codes "go") go_guard []
         (tree.through tree.expand (tree.turned (sample.first_port room) (sample.literal 1)))) }
 {
-    let port = turned(alloc, first_port(alloc, room(alloc)?)?, 1)?;
+    let (guard, port) = pair(go_guard(alloc), into_room(alloc))?;
     Ok(action(
         Word::new(b"go", 0),
-        go_guard(alloc)?,
+        guard,
         Vec::new(alloc),
         Move::Expand(port),
     ))
+}
+
+/// `turn first p in ports ( GUARD ) 1`, for the guard of `room`
+fn into_room(alloc: Global) -> Result<PortExpr, AllocError>
+    ensures { IfOk result (λ r.
+        port_of r ≡ tree.turned (sample.first_port room) (sample.literal 1)) }
+{
+    turned(alloc, first_port(alloc, room(alloc)?)?, 1)
 }
 
 fn go_guard(alloc: Global) -> Result<Guard, AllocError>
@@ -311,8 +312,7 @@ fn go_guard(alloc: Global) -> Result<Guard, AllocError>
 fn room(alloc: Global) -> Result<Guard, AllocError>
     ensures { IfOk result (λ g. guard_of g ≡ room) }
 {
-    let next = turned(alloc, p(), 1)?;
-    let still = p_is(alloc, 1, 4)?;
+    let (still, next) = pair(p_is(alloc, 1, 4), turned(alloc, p(), 1))?;
     both(alloc, still, Guard::Free(next))
 }
 
@@ -322,17 +322,18 @@ fn drag(alloc: Global) -> Result<Action, AllocError>
         ≡ sample.action (codes "drag") drag_guard drag_body
         (tree.through tree.pull (tree.bound (sample.example_name (codes "q"))))) }
 {
-    let body = drag_body(alloc)?;
-    let guard = drag_guard(alloc)?;
+    let (body, guard) = pair(drag_body(alloc), drag_guard(alloc))?;
     Ok(action(Word::new(b"drag", 0), guard, body, Move::Pull(q())))
 }
 
 fn drag_guard(alloc: Global) -> Result<Guard, AllocError>
     ensures { IfOk result (λ g. guard_of g ≡ drag_guard) }
 {
-    let moving = in_state(alloc, 2, 3)?;
-    let (moving, alone) = beside(moving, none_is_idle(alloc))?;
-    let ((moving, alone), behind) = beside((moving, alone), some_follower(alloc))?;
+    let (moving, alone, behind) = triple(
+        in_state(alloc, 2, 3),
+        none_is_idle(alloc),
+        some_follower(alloc),
+    )?;
     all_four(alloc, Guard::Expanded, moving, alone, behind)
 }
 
@@ -371,10 +372,9 @@ fn follower_at_tail(alloc: Global, asked: Guard) -> Result<Guard, AllocError>
         (tree.direction tree.peer_side sample.p)
         ∷ [])) }
 {
-    let (asked, at_tail) = beside(asked, not(alloc, Guard::AtHead(p())))?;
-    let ((asked, at_tail), follower) = beside((asked, at_tail), state_is(alloc, p(), 2))?;
-    let ((asked, at_tail, follower), here) = beside(
-        (asked, at_tail, follower),
+    let (at_tail, follower, here) = triple(
+        not(alloc, Guard::AtHead(p())),
+        state_is(alloc, p(), 2),
         points_here(alloc, parent()),
     )?;
     all_four(alloc, at_tail, follower, asked, here)
@@ -383,8 +383,8 @@ fn follower_at_tail(alloc: Global, asked: Guard) -> Result<Guard, AllocError>
 fn drag_body(alloc: Global) -> Result<Vec<Stmt>, AllocError>
     ensures { IfOk result (λ ss. map stmt_of ss.items ≡ drag_body) }
 {
-    let turned = parent_turned(alloc)?;
-    let first = let_q(alloc, tail_follower(alloc)?)?;
+    let follower = tail_follower(alloc)?;
+    let (first, turned) = pair(let_q(alloc, follower), parent_turned(alloc))?;
     two_stmts(alloc, first, Stmt::PutOf(q(), parent(), turned))
 }
 
@@ -430,8 +430,8 @@ fn rest(alloc: Global) -> Result<Action, AllocError>
 fn rest_guard(alloc: Global) -> Result<Guard, AllocError>
     ensures { IfOk result (λ g. guard_of g ≡ rest_guard) }
 {
-    let free = not(alloc, waits(alloc)?)?;
-    let (free, moving) = beside(free, in_state(alloc, 2, 3))?;
+    let waits = waits(alloc)?;
+    let (moving, free) = pair(in_state(alloc, 2, 3), not(alloc, waits))?;
     all_three(alloc, Guard::Expanded, moving, free)
 }
 
@@ -439,8 +439,7 @@ fn rest_guard(alloc: Global) -> Result<Guard, AllocError>
 fn waits(alloc: Global) -> Result<Guard, AllocError>
     ensures { IfOk result (λ g. guard_of g ≡ waits) }
 {
-    let idle = state_is(alloc, p(), 0)?;
-    let (idle, follower) = beside(idle, head_follower(alloc))?;
+    let (idle, follower) = pair(state_is(alloc, p(), 0), head_follower(alloc))?;
     some_port(alloc, either(alloc, idle, follower)?)
 }
 

@@ -7,11 +7,11 @@ use mir.Val.{to_z}
 use Rattle.std.proofs.lemmas.Bool.{and_parts}
 use Rattle.std.proofs.lemmas.Int.{ints, to_z-of_z}
 use Rattle.std.proofs.lemmas.Result.{err_from_is_err_and}
-use Rattle.action_tree.specs.Trees.{Sum, turned}
-use Rattle.action_tree.specs.Views.{name_of, literal_of, sum_of, terms_of, guard_of, port_of}
+use Rattle.action_tree.specs.Trees.{Sum, negation, conjunction, disjunction, mod6, at_end, comparison, tested, linked, free, at_head, peer_expanded, peer_head, turned}
+use Rattle.action_tree.specs.Views.{name_of, literal_of, dirterm_of, sum_of, terms_of, guard_of, guards_of, term_of, port_of}
 use Rattle.action_tree.specs.Writable.{is_sum}
 use Rattle.action_check.specs.Rules.{SumKept}
-use Rattle.action_tree.proofs.Viewed.{sum_opened, port_turn}
+use Rattle.action_tree.proofs.Viewed.{guard_not, guard_and, guard_or, term_mod6, port_at, guard_compare, guard_linked, guard_free, guard_at_head, guard_peer_expanded, guard_peer_head, sum_opened, port_turn}
 use Rattle.amoebot_state.specs.declared.bot.End.TheVariants.{Head}
 use Rattle.amoebot_state.specs.Ports.{port}
 use Rattle.action_meaning.specs.Values.{signed, each_value, some_value}
@@ -29,6 +29,7 @@ use Rattle.action_eval.proofs.Nodes.{any_tree, all_tree, first_tree, count_tree,
 use Rattle.action_tree.proofs.expression.Guard.TheLaws.{the_size}
 use Rattle.action_tree.proofs.expression.PortExpr.TheLaws.{the_size as port_size}
 use Rattle.action_tree.proofs.expression.Term.TheLaws.{the_size as term_size}
+use Rattle.action_eval.proofs.Thens.{then_fails, then_goes}
 use Rattle.action_eval.proofs.Terms.{of_port_fails, of_port_is, count_fails, count_is}
 use Rattle.action_eval.proofs.Placed.{placed_at, term_is_placed, in_any, in_all, in_first, in_count, in_turned, in_member}
 use Rattle.action_eval.proofs.PartSizes.{guard_in_any, guard_in_all, guard_in_count, guard_in_first, port_in_turn, port_in_term, term_in_sum}
@@ -405,3 +406,131 @@ term_value-returns-in_ok-count-in-Count-clause-value t c =
     let fits : FitsSigned w32 c.from-in-Count.result = search rules in
     let e = count_tree _ _ _ _ _ c.in-Count.is c.deref.ensures in
     rw (to_z-of_z w32 c.from-in-Count.result fits, e) (ap Ok c.from-in-Count.ensures ∙ sym (count_is s xs (name_of c.in-Count.name) c.in-Count.set (guard_of c.deref.result.now) c.in_ok-count-in-Count.count (sym c.in_ok-count-in-Count.ensures.value)))
+
+pub guard_value-returns-in_err-value-in-Not : goal.guard_value-returns-in_err-value-in-Not
+guard_value-returns-in_err-value-in-Not t c =
+    let r = c.from_residual in
+    let p = err_from_is_err_and r.result r.ensures.1 in
+    let e : guard_of c.args.guard.now ≡ negation (guard_of c.deref.result.now) = rw (c.in-Not.is, c.deref.ensures) (guard_not c.in-Not.guard) in
+    rw (p.1, p.2, e) (sym (then_fails _ _ _ (sym c.in_err-value-in-Not.ensures)))
+
+pub guard_value-returns-in_ok-value-in-Not : goal.guard_value-returns-in_ok-value-in-Not
+guard_value-returns-in_ok-value-in-Not t c =
+    let e : guard_of c.args.guard.now ≡ negation (guard_of c.deref.result.now) = rw (c.in-Not.is, c.deref.ensures) (guard_not c.in-Not.guard) in
+    rw e (sym (then_goes _ _ _ (sym c.in_ok-value-in-Not.ensures)))
+
+pub guard_value-returns-in_err-left-in-Compare : goal.guard_value-returns-in_err-left-in-Compare
+guard_value-returns-in_err-left-in-Compare t c =
+    let r = c.from_residual-in_err-left-in-Compare in
+    let p = err_from_is_err_and r.result r.ensures.1 in
+    let e : guard_of c.args.guard.now ≡ comparison (sum_of c.in-Compare.left) c.in-Compare.cmp (sum_of c.in-Compare.right) = rw c.in-Compare.is (guard_compare c.in-Compare.left c.in-Compare.cmp c.in-Compare.right) in
+    rw (p.1, p.2, e) (sym (then_fails _ _ _ (sym c.in_err-left-in-Compare.ensures)))
+
+pub guard_value-returns-in_err-right-in-Compare : goal.guard_value-returns-in_err-right-in-Compare
+guard_value-returns-in_err-right-in-Compare t c =
+    let r = c.from_residual-in_err-right-in-Compare in
+    let p = err_from_is_err_and r.result r.ensures.1 in
+    let e : guard_of c.args.guard.now ≡ comparison (sum_of c.in-Compare.left) c.in-Compare.cmp (sum_of c.in-Compare.right) = rw c.in-Compare.is (guard_compare c.in-Compare.left c.in-Compare.cmp c.in-Compare.right) in
+    rw (p.1, p.2, e) (sym (then_goes _ _ _ (sym c.in_ok-left-in-Compare.ensures) ∙ then_fails _ _ _ (sym c.in_err-right-in-Compare.ensures)))
+
+pub guard_value-returns-in-Linked : goal.guard_value-returns-in-Linked
+guard_value-returns-in-Linked t c =
+    let e : guard_of c.args.guard.now ≡ tested linked (port_of c.in-Linked.port) = rw c.in-Linked.is (guard_linked c.in-Linked.port) in
+    rw e c.test_value.ensures
+
+pub guard_value-returns-in-Free : goal.guard_value-returns-in-Free
+guard_value-returns-in-Free t c =
+    let e : guard_of c.args.guard.now ≡ tested free (port_of c.in-Free.port) = rw c.in-Free.is (guard_free c.in-Free.port) in
+    rw e c.test_value-in-Free.ensures
+
+pub guard_value-returns-in-AtHead : goal.guard_value-returns-in-AtHead
+guard_value-returns-in-AtHead t c =
+    let e : guard_of c.args.guard.now ≡ tested at_head (port_of c.in-AtHead.port) = rw c.in-AtHead.is (guard_at_head c.in-AtHead.port) in
+    rw e c.test_value-in-AtHead.ensures
+
+pub guard_value-returns-in-PeerExpanded : goal.guard_value-returns-in-PeerExpanded
+guard_value-returns-in-PeerExpanded t c =
+    let e : guard_of c.args.guard.now ≡ tested peer_expanded (port_of c.in-PeerExpanded.port) = rw c.in-PeerExpanded.is (guard_peer_expanded c.in-PeerExpanded.port) in
+    rw e c.test_value-in-PeerExpanded.ensures
+
+pub guard_value-returns-in-PeerHead : goal.guard_value-returns-in-PeerHead
+guard_value-returns-in-PeerHead t c =
+    let e : guard_of c.args.guard.now ≡ tested peer_head (port_of c.in-PeerHead.port) = rw c.in-PeerHead.is (guard_peer_head c.in-PeerHead.port) in
+    rw e c.test_value-in-PeerHead.ensures
+
+pub test_value-returns-in_err-port : goal.test_value-returns-in_err-port
+test_value-returns-in_err-port t c =
+    let r = c.from_residual in
+    let p = err_from_is_err_and r.result r.ensures.1 in
+    rw (p.1, p.2) (sym (then_fails _ _ _ (sym c.in_err-port.ensures)))
+
+pub term_value-returns-in_err-port-in-Of-clause-value : goal.term_value-returns-in_err-port-in-Of-clause-value
+term_value-returns-in_err-port-in-Of-clause-value t c =
+    let r = c.from_residual-in_err-port-in-Of in
+    let p = err_from_is_err_and r.result r.ensures.1 in
+    let e = member_tree _ _ _ c.in-Of.is in
+    rw (p.1, p.2, e) (sym (then_fails _ _ _ (sym c.in_err-port-in-Of.ensures)))
+
+pub port_value-returns-in_err-port-in-Turn : goal.port_value-returns-in_err-port-in-Turn
+port_value-returns-in_err-port-in-Turn t c =
+    let r = c.from_residual-in_err-port-in-Turn in
+    let p = err_from_is_err_and r.result r.ensures.1 in
+    let e : port_of c.args.port.now ≡ turned (port_of c.deref.result.now) (literal_of c.in-Turn.number) = rw (c.in-Turn.is, c.deref.ensures) (port_turn c.in-Turn.port c.in-Turn.number) in
+    rw (p.1, p.2, e) (sym (then_fails _ _ _ (sym c.in_err-port-in-Turn.ensures)))
+
+pub test_value-returns-in-Linked : goal.test_value-returns-in-Linked
+test_value-returns-in-Linked t c =
+    rw c.in-Linked.is (c.connected.ensures ∙ sym (then_goes _ _ _ (sym c.in_ok-port.ensures)))
+
+pub test_value-returns-in-Free : goal.test_value-returns-in-Free
+test_value-returns-in-Free t c =
+    rw c.in-Free.is (c.is_free.ensures ∙ sym (then_goes _ _ _ (sym c.in_ok-port.ensures)))
+
+pub test_value-returns-in_err-seen-in-PeerExpanded : goal.test_value-returns-in_err-seen-in-PeerExpanded
+test_value-returns-in_err-seen-in-PeerExpanded t c =
+    let r = c.from_residual-in_err-seen-in-PeerExpanded in
+    let p = err_from_is_err_and r.result r.ensures.1 in
+    rw (p.1, p.2, c.in-PeerExpanded.is) (sym (then_goes _ _ _ (sym c.in_ok-port.ensures) ∙ then_fails _ _ _ (sym c.in_err-seen-in-PeerExpanded.ensures)))
+
+pub test_value-returns-in_ok-seen-in-PeerExpanded : goal.test_value-returns-in_ok-seen-in-PeerExpanded
+test_value-returns-in_ok-seen-in-PeerExpanded t c =
+    rw c.in-PeerExpanded.is (sym (then_goes _ _ _ (sym c.in_ok-port.ensures) ∙ then_goes _ _ _ (sym c.in_ok-seen-in-PeerExpanded.ensures)))
+
+pub test_value-returns-in_err-seen-in-PeerHead : goal.test_value-returns-in_err-seen-in-PeerHead
+test_value-returns-in_err-seen-in-PeerHead t c =
+    let r = c.from_residual-in_err-seen-in-PeerHead in
+    let p = err_from_is_err_and r.result r.ensures.1 in
+    rw (p.1, p.2, c.in-PeerHead.is) (sym (then_goes _ _ _ (sym c.in_ok-port.ensures) ∙ then_fails _ _ _ (sym c.in_err-seen-in-PeerHead.ensures)))
+
+pub test_value-returns-in_ok-seen-in-PeerHead : goal.test_value-returns-in_ok-seen-in-PeerHead
+test_value-returns-in_ok-seen-in-PeerHead t c =
+    rw c.in-PeerHead.is (sym (then_goes _ _ _ (sym c.in_ok-port.ensures) ∙ then_goes _ _ _ (sym c.in_ok-seen-in-PeerHead.ensures)))
+
+pub guard_value-returns-in-And : goal.guard_value-returns-in-And
+guard_value-returns-in-And t c =
+    let e : guard_of c.args.guard.now ≡ conjunction (guards_of c.deref-in-And.result.now) = rw (c.in-And.is, c.deref-in-And.ensures.value) (guard_and c.in-And.guards) in
+    rw e c.each_value.ensures
+
+pub guard_value-returns-in-Or : goal.guard_value-returns-in-Or
+guard_value-returns-in-Or t c =
+    let e : guard_of c.args.guard.now ≡ disjunction (guards_of c.deref-in-Or.result.now) = rw (c.in-Or.is, c.deref-in-Or.ensures.value) (guard_or c.in-Or.guards) in
+    rw e c.some_value.ensures
+
+pub term_value-returns-in_err-value-in-Mod6-clause-value : goal.term_value-returns-in_err-value-in-Mod6-clause-value
+term_value-returns-in_err-value-in-Mod6-clause-value t c =
+    let r = c.from_residual-in_err-value-in-Mod6 in
+    let p = err_from_is_err_and r.result r.ensures.1 in
+    let e : term_of c.args.term.now ≡ mod6 (sum_of c.in-Mod6.sum) = rw c.in-Mod6.is (term_mod6 c.in-Mod6.sum) in
+    rw (p.1, p.2, e) (sym (then_fails _ _ _ (sym c.in_err-value-in-Mod6.ensures)))
+
+pub port_value-returns-in_err-dir-in-At : goal.port_value-returns-in_err-dir-in-At
+port_value-returns-in_err-dir-in-At t c =
+    let r = c.from_residual in
+    let p = err_from_is_err_and r.result r.ensures.1 in
+    let e : port_of c.args.port.now ≡ at_end c.in-At.end (dirterm_of c.in-At.direction) = rw c.in-At.is (port_at c.in-At.end c.in-At.direction) in
+    rw (p.1, p.2, e) (sym (then_fails _ _ _ (sym c.in_err-dir-in-At.ensures)))
+
+pub port_value-returns-in_ok-dir-in-At : goal.port_value-returns-in_ok-dir-in-At
+port_value-returns-in_ok-dir-in-At t c =
+    let e : port_of c.args.port.now ≡ at_end c.in-At.end (dirterm_of c.in-At.direction) = rw c.in-At.is (port_at c.in-At.end c.in-At.direction) in
+    rw e (sym (then_goes _ _ _ (sym c.in_ok-dir-in-At.ensures)))

@@ -1,10 +1,13 @@
+use denote.Param.Weighed.{at_most}
 use Rattle.std.proofs.Common.{◌≡◌, ◌<◌, true, length, ap, sym, subst, ◌∙◌, rules, arith}
 use Rattle.action_tree.specs.Places.{guard_placed}
 use Rattle.action_tree.specs.Scopes.{Scope}
+use Rattle.action_tree.specs.Trees.{stmts}
 use Rattle.action_tree.specs.Views.{stmt_of, stmts_of}
+use Rattle.action_tree.proofs.statement.Stmt.TheLaws.{the_size}
 use Rattle.std.proofs.lemmas.List.{with_items_is}
 use Rattle.action_tree.proofs.PlacedStatements.{put_same, put_placed, put_of_same, put_of_placed, let_same, let_placed, if_same, if_placed, for_same, for_placed, stmts_at}
-use Rattle.action_tree.proofs.PlacesLemmas.{stmts_next}
+use Rattle.action_tree.proofs.PlacesLemmas.{stmts_next, stmt_room, stmts_over}
 use Rattle.action_tree.proofs.placed_actions.+placed_statements.Goals as goal
 
 pub place_stmts-loop-stmt-preserved : goal.place_stmts-loop-stmt-preserved
@@ -65,3 +68,22 @@ placed_stmt-returns-in-For-clause-placed t c =
     let P : Scope → Type 0 = λ sc. guard_placed c.placed_guard-guard-in-For.result sc ≡ true in
     for_placed _ _ _ _ _ (subst P c.bind-inner.ensures c.placed_guard-guard-in-For.ensures.placed)
     (stmts_at items c.bind-inner.ensures c.place_stmts-in-For.ensures.placed)
+
+pub place_stmts-returns-clause-same : goal.place_stmts-returns-clause-same
+place_stmts-returns-clause-same t c = ap stmts c.loop-stmt.invariant.passed.same
+
+pub place_stmts-returns-clause-placed : goal.place_stmts-returns-clause-placed
+place_stmts-returns-clause-placed t c = (stmts_over c.loop-stmt.invariant.passed (omega arith)).0
+
+pub place_stmts-returns-clause-behind : goal.place_stmts-returns-clause-behind
+place_stmts-returns-clause-behind t c = (stmts_over c.loop-stmt.invariant.passed (omega arith)).1
+
+pub place_stmts-placed_stmt-requires : goal.place_stmts-placed_stmt-requires
+place_stmts-placed_stmt-requires t c =
+    let here : c.loop-stmt.stmt-index < length c.loop-stmt.stmts = omega arith in
+    let room = (stmt_room c.stmt-item.result c.loop-stmt.invariant.passed here c.stmt-item.is).0 in
+    let e = c.replace-bare.ensures.value ∙ sym c.stmt-item.is in
+    let old = c.loop-stmt.invariant.unvisited.1 c.loop-stmt.stmt-index c.stmt-item.result (omega arith) in
+    let small = at_most the_size c.args.stmts.now c.loop-stmt.stmt-index c.stmt-item.result (omega arith) in
+    let same = ap the_size (e ∙ c.stmt-item.is ∙ old) in
+    (omega (arith, c.decreases), rw e room)

@@ -4,11 +4,12 @@ use Rattle.std.proofs.lemmas.List.{with_items_is}
 use Rattle.action_tree.specs.PlacedScope.{placed_scope}
 use Rattle.action_tree.specs.Places.{guard_placed, guards_placed}
 use Rattle.action_tree.specs.Scopes.{Scope}
-use Rattle.action_tree.specs.Views.{guard_of, guards_of, part_of}
+use Rattle.action_tree.specs.Views.{guard_of, guards_of, term_of, part_of}
+use Rattle.action_tree.specs.Trees.{guards, terms}
 use Rattle.action_tree.proofs.expression.Guard.TheLaws.{the_size}
 use Rattle.action_tree.proofs.expression.Part.TheLaws.{the_size as part_size}
-use Rattle.action_tree.proofs.PlacedExpressions.{and_same, and_placed, or_same, or_placed, any_same, any_placed, all_same, all_placed, compare_same, compare_placed, linked_same, linked_placed, free_same, free_placed, at_head_same, at_head_placed, peer_expanded_same, peer_expanded_placed, peer_head_same, peer_head_placed, member_same, member_placed, count_same, count_placed, first_same, first_placed}
-use Rattle.action_tree.proofs.PlacesLemmas.{passed_next, guard_room, part_room}
+use Rattle.action_tree.proofs.PlacedExpressions.{true_placed, false_placed, contracted_placed, expanded_placed, not_same, not_placed, number_placed, own_same, own_placed, dir_same, dir_placed, peer_dir_same, peer_dir_placed, inner_placed, mod6_same, mod6_placed, bound_same, bound_placed, at_same, at_placed, turn_same, turn_placed, and_same, and_placed, or_same, or_placed, any_same, any_placed, all_same, all_placed, compare_same, compare_placed, linked_same, linked_placed, free_same, free_placed, at_head_same, at_head_placed, peer_expanded_same, peer_expanded_placed, peer_head_same, peer_head_placed, member_same, member_placed, count_same, count_placed, first_same, first_placed}
+use Rattle.action_tree.proofs.PlacesLemmas.{passed_next, all_passed, guard_room, part_room}
 use Rattle.action_tree.proofs.places.+places.Goals as goal
 
 pub place_guards-placed_guard-requires : goal.place_guards-placed_guard-requires
@@ -148,3 +149,99 @@ pub placed_port-returns-in-First-clause-placed : goal.placed_port-returns-in-Fir
 placed_port-returns-in-First-clause-placed t c =
     let P : Scope → Type 0 = λ sc. guard_placed c.placed_box-guard.result.value sc ≡ true in
     first_placed _ _ _ _ (subst P c.bind.ensures c.placed_box-guard.ensures.placed)
+
+pub placed_guard-returns-in-True-clause-same : goal.placed_guard-returns-in-True-clause-same
+placed_guard-returns-in-True-clause-same t c = ap guard_of (sym c.in-True.is)
+
+pub placed_guard-returns-in-True-clause-placed : goal.placed_guard-returns-in-True-clause-placed
+placed_guard-returns-in-True-clause-placed t c = true_placed _
+
+pub placed_guard-returns-in-False-clause-same : goal.placed_guard-returns-in-False-clause-same
+placed_guard-returns-in-False-clause-same t c = ap guard_of (sym c.in-False.is)
+
+pub placed_guard-returns-in-False-clause-placed : goal.placed_guard-returns-in-False-clause-placed
+placed_guard-returns-in-False-clause-placed t c = false_placed _
+
+pub placed_guard-returns-in-Contracted-clause-same : goal.placed_guard-returns-in-Contracted-clause-same
+placed_guard-returns-in-Contracted-clause-same t c = ap guard_of (sym c.in-Contracted.is)
+
+pub placed_guard-returns-in-Contracted-clause-placed : goal.placed_guard-returns-in-Contracted-clause-placed
+placed_guard-returns-in-Contracted-clause-placed t c = contracted_placed _
+
+pub placed_guard-returns-in-Expanded-clause-same : goal.placed_guard-returns-in-Expanded-clause-same
+placed_guard-returns-in-Expanded-clause-same t c = ap guard_of (sym c.in-Expanded.is)
+
+pub placed_guard-returns-in-Expanded-clause-placed : goal.placed_guard-returns-in-Expanded-clause-placed
+placed_guard-returns-in-Expanded-clause-placed t c = expanded_placed _
+
+pub placed_guard-returns-in-Not-clause-same : goal.placed_guard-returns-in-Not-clause-same
+placed_guard-returns-in-Not-clause-same t c = not_same c.args.guard _ _ c.in-Not.is c.placed_box.ensures.same
+
+pub placed_guard-returns-in-Not-clause-placed : goal.placed_guard-returns-in-Not-clause-placed
+placed_guard-returns-in-Not-clause-placed t c = not_placed _ _ c.placed_box.ensures.placed
+
+pub placed_term-returns-in-Number-clause-same : goal.placed_term-returns-in-Number-clause-same
+placed_term-returns-in-Number-clause-same t c = ap term_of (sym c.in-Number.is)
+
+pub placed_term-returns-in-Number-clause-placed : goal.placed_term-returns-in-Number-clause-placed
+placed_term-returns-in-Number-clause-placed t c = number_placed _ _
+
+pub placed_term-returns-in-Inner-clause-same : goal.placed_term-returns-in-Inner-clause-same
+placed_term-returns-in-Inner-clause-same t c = ap term_of (sym c.in-Inner.is)
+
+pub placed_term-returns-in-Inner-clause-placed : goal.placed_term-returns-in-Inner-clause-placed
+placed_term-returns-in-Inner-clause-placed t c = inner_placed _
+
+pub placed_term-returns-in-Own-clause-same : goal.placed_term-returns-in-Own-clause-same
+placed_term-returns-in-Own-clause-same t c = own_same c.args.term _ _ c.in-Own.is c.placed_var.ensures.same
+
+pub placed_term-returns-in-Own-clause-placed : goal.placed_term-returns-in-Own-clause-placed
+placed_term-returns-in-Own-clause-placed t c = own_placed _ _ c.placed_var.ensures.placed
+
+pub placed_term-returns-in-Dir-clause-same : goal.placed_term-returns-in-Dir-clause-same
+placed_term-returns-in-Dir-clause-same t c = dir_same c.args.term _ _ c.in-Dir.is c.placed_port-in-Dir.ensures.same
+
+pub placed_term-returns-in-Dir-clause-placed : goal.placed_term-returns-in-Dir-clause-placed
+placed_term-returns-in-Dir-clause-placed t c = dir_placed _ _ c.placed_port-in-Dir.ensures.placed
+
+pub placed_term-returns-in-PeerDir-clause-same : goal.placed_term-returns-in-PeerDir-clause-same
+placed_term-returns-in-PeerDir-clause-same t c = peer_dir_same c.args.term _ _ c.in-PeerDir.is c.placed_port-in-PeerDir.ensures.same
+
+pub placed_term-returns-in-PeerDir-clause-placed : goal.placed_term-returns-in-PeerDir-clause-placed
+placed_term-returns-in-PeerDir-clause-placed t c = peer_dir_placed _ _ c.placed_port-in-PeerDir.ensures.placed
+
+pub placed_term-returns-in-Mod6-clause-same : goal.placed_term-returns-in-Mod6-clause-same
+placed_term-returns-in-Mod6-clause-same t c = mod6_same c.args.term _ _ c.in-Mod6.is c.placed_sum.ensures.same
+
+pub placed_term-returns-in-Mod6-clause-placed : goal.placed_term-returns-in-Mod6-clause-placed
+placed_term-returns-in-Mod6-clause-placed t c = mod6_placed _ _ c.placed_sum.ensures.placed
+
+pub placed_port-returns-in-Name-clause-same : goal.placed_port-returns-in-Name-clause-same
+placed_port-returns-in-Name-clause-same t c = bound_same c.args.port _ _ c.in-Name.is c.placed_bound.ensures.same
+
+pub placed_port-returns-in-Name-clause-placed : goal.placed_port-returns-in-Name-clause-placed
+placed_port-returns-in-Name-clause-placed t c = bound_placed _ _ c.placed_bound.ensures.placed
+
+pub placed_port-returns-in-At-clause-same : goal.placed_port-returns-in-At-clause-same
+placed_port-returns-in-At-clause-same t c = at_same c.args.port _ _ _ c.in-At.is c.placed_direction.ensures.same
+
+pub placed_port-returns-in-At-clause-placed : goal.placed_port-returns-in-At-clause-placed
+placed_port-returns-in-At-clause-placed t c = at_placed _ _ _ c.placed_direction.ensures.placed
+
+pub placed_port-returns-in-Turn-clause-same : goal.placed_port-returns-in-Turn-clause-same
+placed_port-returns-in-Turn-clause-same t c = turn_same c.args.port _ _ _ c.in-Turn.is c.placed_turned.ensures.same
+
+pub placed_port-returns-in-Turn-clause-placed : goal.placed_port-returns-in-Turn-clause-placed
+placed_port-returns-in-Turn-clause-placed t c = turn_placed _ _ _ c.placed_turned.ensures.placed
+
+pub place_guards-returns-clause-same : goal.place_guards-returns-clause-same
+place_guards-returns-clause-same t c = ap guards c.loop-guard.invariant.passed.same
+
+pub place_guards-returns-clause-placed : goal.place_guards-returns-clause-placed
+place_guards-returns-clause-placed t c = all_passed c.loop-guard.invariant.passed (omega arith)
+
+pub place_parts-returns-clause-same : goal.place_parts-returns-clause-same
+place_parts-returns-clause-same t c = ap terms c.loop-part.invariant.passed.same
+
+pub place_parts-returns-clause-placed : goal.place_parts-returns-clause-placed
+place_parts-returns-clause-placed t c = all_passed c.loop-part.invariant.passed (omega arith)
