@@ -241,8 +241,19 @@ impl Found {
     {
         let (name, cell) = &self.cells.as_slice()[1 + place];
         match cell {
-            Cell::Spot(Some(id)) => Behind::Bot(*id),
-            Cell::Spot(None) | Cell::Body(_) => self.on_empty(name),
+            Cell::Spot(occupant) => self.on_spot(name, *occupant),
+            Cell::Body(_) => self.on_empty(name),
+        }
+    }
+
+    /// What is on a node with this occupant, or without one.
+    fn on_spot(&self, name: &CellName, occupant: Option<u16>) -> Behind
+        ensures { (v : Node) → name.now ≡ CellName.Spot v
+            → result ≡ on_node true (is_wall (shown_alone self.now) v) occupant }
+    {
+        match occupant {
+            Some(id) => Behind::Bot(id),
+            None => self.on_empty(name),
         }
     }
 

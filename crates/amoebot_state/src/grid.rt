@@ -23,14 +23,12 @@ pub(crate) fn is_close(a: Node, b: Node) -> bool
 pub(crate) fn has_values(maxes: &[u8; 8], values: &[u8; 8]) -> bool
     ensures { result ≡ has_values maxes.now values.now }
 {
-    values[0] <= maxes[0]
-        && values[1] <= maxes[1]
-        && values[2] <= maxes[2]
-        && values[3] <= maxes[3]
-        && values[4] <= maxes[4]
-        && values[5] <= maxes[5]
-        && values[6] <= maxes[6]
-        && values[7] <= maxes[7]
+    for k in 0..8 {
+        if values[k] > maxes[k] {
+            return false;
+        }
+    }
+    true
 }
 
 /// Adds an amoebot with the next id, and the id to its nodes.

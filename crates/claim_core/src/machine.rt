@@ -1,4 +1,6 @@
-ghost use Rattle.std.specs.Prelude.{◌≡◌, ◌<◌, ◌+◌, length, map, IfOk, IsSome, slice_get, Some, None, IsTrue, ◌↔◌};
+ghost use Rattle.std.specs.Prelude.{◌≡◌, ◌<◌, ◌≤◌, ◌+◌, [], length, map, replicate, IfOk, IsSome, Ok, slice_get, Some, None, IsTrue, ◌↔◌};
+ghost use Rattle.claim_core.specs.Turns.{AreLists, no_marks};
+ghost use Rattle.claim_core.specs.SerialRuns.{all_turns};
 ghost use Rattle.tri_lattice.specs.Extent.{Extent};
 ghost use Rattle.amoebot_state.specs.Zones.{IsShown, Shown, shown_with};
 ghost use Rattle.amoebot_state.specs.Known.{next_cell};
@@ -103,6 +105,74 @@ fn opening_phase(turn: u32, turns: u32) -> Phase
     }
 }
 
+/// A part, and the next one where that was made.
+/// A caller that puts its part in here owns none at its `?`, which leaves it less to prove.
+fn beside<A: Drop, B: Drop>(before: A, next: Result<B, NoMemory>) -> Result<(A, B), NoMemory>
+    ensures { IfOk result (λ r. (r.0 ≡ before) × (next ≡ Ok r.1)) }
+{
+    match next {
+        Ok(next) => Ok((before, next)),
+        Err(error) => Err(error),
+    }
+}
+
+/// The journal and the marks of a run of these lists from this world, before its first step.
+fn first_records(alloc: Global, world: &World, lists: &Lists) -> Result<(Journal, Marks), NoMemory>
+    ensures first { IfOk result (λ r. r.0.first ≡ world.now) }
+    ensures entries { IfOk result (λ r. r.0.entries ≡ []) }
+    ensures room { IfOk result (λ r. all_turns lists.now ≤ r.0.spare) }
+    ensures marks { IfOk result (λ r. r.1 ≡ no_marks (length lists.now.ids) lists.now.turns) }
+{
+    let journal = first_journal(alloc, world, lists.all_turns())?;
+    beside(journal, Marks::make(alloc, lists.callers(), lists.turns()))
+}
+
+/// The journal of a run from this world, with room for so many entries.
+fn first_journal(alloc: Global, world: &World, room: u32) -> Result<Journal, NoMemory>
+    ensures first { IfOk result (λ j. j.first ≡ world.now) }
+    ensures entries { IfOk result (λ j. j.entries ≡ []) }
+    ensures room { IfOk result (λ j. room ≤ j.spare) }
+{
+    let mut journal = Journal::make(alloc, world)?;
+    journal.reserve(alloc, room)?;
+    Ok(journal)
+}
+
+/// So many tags, of cells that nobody holds, and the callers of these lists at their first turns.
+fn first_places(
+    alloc: Global,
+    cells: usize,
+    lists: &Lists,
+) -> Result<(Vec<u64>, Vec<CoreCaller>), NoMemory>
+    ensures tags { IfOk result (λ r. r.0.items ≡ replicate cells 0) }
+    ensures many { IfOk result (λ r. length r.1.items ≡ length lists.now.ids) }
+    ensures begin { IfOk result (λ r. All (Begins lists.now.turns 0) r.1.items) }
+    ensures lists { AreLists lists.now }
+{
+    let callers = lists.callers();
+    let tags = free_tags(alloc, cells)?;
+    beside(tags, first_seats(alloc, callers, lists.turns()))
+}
+
+fn free_tags(alloc: Global, cells: usize) -> Result<Vec<u64>, NoMemory>
+    ensures { IfOk result (λ tags. tags.items ≡ replicate cells 0) }
+{
+    let mut tags = Vec::new(alloc);
+    tags.resize(cells, 0)?;
+    Ok(tags)
+}
+
+fn first_seats(alloc: Global, callers: u8, turns: u32) -> Result<Vec<CoreCaller>, NoMemory>
+    ensures many { IfOk result (λ seats. length seats.items ≡ callers) }
+    ensures begin { IfOk result (λ seats. All (Begins turns 0) seats.items) }
+{
+    let mut seats = Vec::new(alloc);
+    for _caller in 0..callers {
+        seats.push(CoreCaller::at(0, turns))?;
+    }
+    Ok(seats)
+}
+
 /// The claim protocol of all callers of a run, stepped one caller at a time.
 #[derive(Drop)]
 pub struct Core<'d, D: Decider> {
@@ -152,23 +222,12 @@ impl<'d, D: Decider> Core<'d, D> {
         world.keeps();
         touches_zone(decider);
         has_next(decider);
-        let lists = lists.copy(alloc)?;
-        let callers = lists.callers();
-        let turns = lists.turns();
-        let mut journal = Journal::make(alloc, &world)?;
-        journal.reserve(alloc, lists.all_turns())?;
-        let marks = Marks::make(alloc, callers, turns)?;
-        let mut tags = Vec::new(alloc);
-        let cells = cells_of(&world);
-        if tags.resize(cells, 0).is_err() {
-            return Err(NoMemory);
-        }
-        let mut seats = Vec::new(alloc);
-        for _caller in 0..callers {
-            if seats.push(CoreCaller::at(0, turns)).is_err() {
-                return Err(NoMemory);
-            }
-        }
+        let records = first_records(alloc, &world, lists)?;
+        let places = first_places(alloc, cells_of(&world), lists);
+        let (records, places) = beside(records, places)?;
+        let ((records, places), lists) = beside((records, places), lists.copy(alloc))?;
+        let (journal, marks) = records;
+        let (tags, seats) = places;
         Ok(Core {
             decider,
             lists,

@@ -3,6 +3,8 @@ use Rattle.std.proofs.lemmas.List.{take_all, take_more}
 use Rattle.tri_lattice.specs.declared.node.Node.{Node}
 use Rattle.amoebot_state.specs.Storage.{IsMarked}
 use Rattle.amoebot_state.proofs.Frames.{first_bad, frame_kept, gridded_is, walls_more}
+use Rattle.std.proofs.Common.{◌≡◌, ◌∙◌, length, arith}
+use Rattle.amoebot_state.proofs.Stored.{unmarked}
 use Rattle.amoebot_state.proofs.frame.Frame.make.Goals as goal
 
 pub returns-then-not-mark-clause-fault : goal.returns-then-not-mark-clause-fault
@@ -33,3 +35,11 @@ invariant_of-result c = frame_kept c.args.area c.args.maxes c.args.walls.now c.l
 
 pub returns-clause-value : goal.returns-clause-value
 returns-clause-value c = gridded_is c.args.area c.args.maxes c.args.walls.now c.loop-place.marks.items (whole c)
+
+pub loop-place-init : goal.loop-place-init
+loop-place-init c =
+    let size : length c.resize.new.self.items ≡ c.size.result = sym c.resize.new.self.ok.0 ∙ c.in_ok-resize.ensures.len in
+    record {
+      marked = unmarked c.args.area c.resize.new.self.items _ _ _ (size ∙ c.size.ensures.value) c.in_ok-resize.ensures.items c.new-marks.ensures.items;
+      fine = λ j v lt at. absurd (omega (arith, lt));
+    }

@@ -5,6 +5,7 @@ use Rattle.amoebot_state.specs.Configs.{Config, with_these, with_bot}
 use Rattle.amoebot_state.specs.Storage.{put_at}
 use Rattle.amoebot_state.specs.Refusals.{bot_fault}
 use Rattle.amoebot_state.proofs.Added.{no_fault, world_made, these_push}
+use Rattle.amoebot_state.proofs.Stored.{counted}
 use Rattle.amoebot_state.proofs.world.World.add.Goals as goal
 
 pub invariant_of-self-2 : goal.invariant_of-self-2
@@ -25,3 +26,8 @@ pub returns-clause-ok : goal.returns-clause-ok
 returns-clause-ok c =
     let frame = c.self.inside.frame in
     (sym c.in-None.ensures, ap (with_these frame) c.in_ok-put_new.ensures.bots ∙ these_push frame c.self.inside.amoebots.items c.args.bot.now ∙ ap (λ d. with_bot d c.args.bot.now) c.self.view_is)
+
+pub overflow_cast-id : goal.overflow_cast-id
+overflow_cast-id c =
+    let n = counted c.self.inside.frame c.args.self.now c.self.inside.amoebots.items _ (c.len-id.ensures ∙ c.self.inside.amoebots.ok.0) c.self.view_is in
+    record { fits = omega (arith, n, c.requires.few) }

@@ -2,7 +2,6 @@ use Rattle.std.proofs.Common.{◌≡◌, ◌∙◌, ap, sym, subst}
 use Rattle.std.specs.Prelude.{is_some}
 use Rattle.tri_lattice.specs.Extent.{Extent}
 use Rattle.amoebot_state.specs.Configs.{IsValid}
-use Rattle.amoebot_state.specs.Ways.{ways_of}
 use Rattle.amoebot_state.specs.Zones.{shown, shown_by, zone, zone_nodes}
 use Rattle.amoebot_state.specs.Walls.{node_numbers}
 use Rattle.amoebot_state.proofs.Counts.{at_most_ten_nodes}

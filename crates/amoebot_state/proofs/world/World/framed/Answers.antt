@@ -5,6 +5,10 @@ use Rattle.amoebot_state.specs.declared.refusal.WorldRefusal.TheVariants.{NoMemo
 use Rattle.amoebot_state.specs.Refusals.{IsFirstFault}
 use Rattle.amoebot_state.proofs.Added.{faultless_more, world_more, first_fault_at}
 use Rattle.amoebot_state.proofs.Options.{err_told}
+use Rattle.std.proofs.lemmas.List.{take_all}
+use Rattle.std.proofs.Common.{◌∙◌, ap}
+use Rattle.amoebot_state.specs.Configs.{with_these}
+use Rattle.amoebot_state.proofs.Stored.{room_left}
 use Rattle.amoebot_state.proofs.world.World.framed.Goals as goal
 
 pub loop-bot-preserved : goal.loop-bot-preserved
@@ -28,3 +32,11 @@ returns-in_err-add-clause-fault c =
       | inl none ↦ inl none
       | inr fault ↦ inr (first_fault_at frame bots c.loop-bot.bot-index _ c.loop-bot.world c.in_err-add.field-0.0 c.loop-bot-test.true c.loop-bot.invariant.0 c.loop-bot.invariant.1 fault)
     ])
+
+pub add-requires-clause-few : goal.add-requires-clause-few
+add-requires-clause-few c =
+    room_left c.args.frame c.loop-bot.world c.args.bots.now c.loop-bot.bot-index c.loop-bot.invariant.0 c.loop-bot-test.true c.requires.few
+
+pub returns-clause-value : goal.returns-clause-value
+returns-clause-value c =
+    c.loop-bot.invariant.0 ∙ ap (with_these c.args.frame) (take_all c.loop-bot.bot-index c.args.bots.now c.loop-bot-test.false)

@@ -1,49 +1,78 @@
-use Rattle.std.proofs.Common.{◌≡◌, ◌∷◌, ◌++◌, [], List, Bool, length, ap, sym, subst, ◌∙◌, arith, length-append}
-use Rattle.std.specs.Prelude.{replicate, if◌then◌else◌}
+use Rattle.std.proofs.Common.{◌≡◌, ℕ, Vec, Global, length, ap, sym, subst, ◌∙◌, None}
+use Rattle.std.specs.Prelude.{IfOk, replicate}
 use Rattle.std.specs.List.{All}
 use Rattle.std.proofs.lemmas.List.{length-map}
-use Rattle.std.proofs.lemmas.List.Elements.{All-push}
 use Rattle.claim_core.specs.declared.machine.CoreCaller.{CoreCaller}
-use Rattle.claim_core.specs.Turns.{CallerLists, no_marks}
+use Rattle.claim_core.specs.Turns.{CallerLists, Kept, MarkLists}
 use Rattle.claim_core.specs.Machine.{fresh, setup}
 use Rattle.claim_core.specs.Soundness.{IsSetup}
-use Rattle.claim_core.specs.Cores.{Begins, opening_core}
-use Rattle.claim_core.proofs.OpeningLemmas.{grown, opens_so, is_core}
+use Rattle.claim_core.specs.Cores.{Begins, IsCore, state_of}
+use Rattle.claim_core.proofs.OpeningLemmas.{opens_so, is_core}
+use Rattle.claim_core.proofs.machine.Core.make.Given as given
 use Rattle.claim_core.proofs.machine.Core.make.Goals as goal
 
-pub loop-caller-preserved : goal.loop-caller-preserved
-loop-caller-preserved g c =
-    let more : c.push.new.self.items ≡ c.loop-caller.seats.items ++ c.at.result ∷ [] = c.push.ensures.items ∙ ap (λ (b : Bool). if b then c.loop-caller.seats.items ++ c.at.result ∷ [] else c.loop-caller.seats.items) c.if-is_err-2.ensures.negation in
-    (omega (arith, ap (λ (ss : List CoreCaller). length ss) more, length-append c.loop-caller.seats.items (c.at.result ∷ []), c.push.new.self.ok.0, c.loop-caller.seats.ok.0, c.loop-caller.invariant.0), subst (All (Begins c.turns-turns.result 0)) (sym more) (All-push (Begins c.turns-turns.result 0) c.loop-caller.seats.items c.at.result c.loop-caller.invariant.1 c.at.ensures))
+abbrev Records : Type 0
+Records = Kept × MarkLists
+
+abbrev Places : Type 0
+Places = Vec ℕ Global × Vec CoreCaller Global
+
+same_lists : (g : given.Over) (c : goal.In_ok-records-3 g) → c.in_ok-records-3.lists ≡ c.args.lists.now
+same_lists g c = subst (λ r. IfOk r (λ (l : CallerLists). l ≡ c.args.lists.now)) c.in_ok-records-3.ensures.1 c.copy.ensures
+
+same_records : (g : given.Over) (c : goal.In_ok-records-3 g) → c.in_ok-records-3.records ≡ c.in_ok-records.records
+same_records g c = ap (λ (p : Records × Places). p.0) c.in_ok-records-3.ensures.0 ∙ c.in_ok-records-2.ensures.0
+
+same_places : (g : given.Over) (c : goal.In_ok-records-3 g) → c.in_ok-records-3.places ≡ c.in_ok-records-2.places
+same_places g c = ap (λ (p : Records × Places). p.1) c.in_ok-records-3.ensures.0
+
+free : (g : given.Over) (c : goal.In_ok-records-3 g) → c.in_ok-records-2.places.0.items ≡ replicate c.cells_of.result 0
+free g c = subst (λ r. IfOk r (λ (q : Places). q.0.items ≡ replicate c.cells_of.result 0)) c.in_ok-records-2.ensures.1 c.first_places-places.ensures.tags
+
+many : (g : given.Over) (c : goal.In_ok-records-3 g) → length c.in_ok-records-2.places.1.items ≡ length c.args.lists.now.ids
+many g c = subst (λ r. IfOk r (λ (q : Places). length q.1.items ≡ length c.args.lists.now.ids)) c.in_ok-records-2.ensures.1 c.first_places-places.ensures.many
+
+begin : (g : given.Over) (c : goal.In_ok-records-3 g) → All (Begins c.args.lists.now.turns 0) c.in_ok-records-2.places.1.items
+begin g c = subst (λ r. IfOk r (λ (q : Places). All (Begins c.args.lists.now.turns 0) q.1.items)) c.in_ok-records-2.ensures.1 c.first_places-places.ensures.begin
 
 pub invariant_of-result : goal.invariant_of-result
 invariant_of-result g c =
-    let first = ap (λ j. j.first) c.in_ok-reserve.ensures.ok ∙ c.in_ok-journal.ensures.first in
-    let entries = ap (λ j. j.entries) c.in_ok-reserve.ensures.ok ∙ c.in_ok-journal.ensures.entries in
-    let free = grown c.cells_of-cells.result _ 0 _ _ _ c.resize.ensures.items c.if-is_err.ensures.negation c.new-tags.ensures.items c.new-tags.ensures.len ∙ ap (λ n. replicate n 0) c.cells_of-cells.ensures.value in
-    let many : length c.loop-caller.seats.items ≡ length c.in_ok-lists.lists.ids = omega (arith, c.loop-caller.invariant.0, c.loop-caller.seats.ok.0, c.callers-callers.ensures.value, c.loop-caller-test.false) in
-    let begin = subst (λ t. All (Begins t 0) c.loop-caller.seats.items) c.turns-turns.ensures c.loop-caller.invariant.1 in
-    let told = c.in_ok-marks.ensures ∙ (λ i. no_marks (c.callers-callers.ensures.value i) (c.turns-turns.ensures i)) in
-    let ok : IsSetup (setup (g.D.Decider.verdict c.args.decider.now) c.args.world c.in_ok-lists.lists) = record {
+    let verdict = g.D.Decider.verdict c.args.decider.now in
+    let world = c.args.world in
+    let lists = c.args.lists.now in
+    let old = c.in_ok-records.records in
+    let places = c.in_ok-records-2.places in
+    let is = c.in_ok-records.ensures in
+    let ok : IsSetup (setup verdict world lists) = record {
       valid = c.keeps.ensures.valid;
       few = c.keeps.ensures.few;
-      lists = c.callers-callers.ensures.lists;
-      bots = subst (λ (l : CallerLists). All (All (λ id. Rattle.std.specs.Prelude.IsSome (Rattle.amoebot_state.specs.Configs.bot_at c.args.world id))) l.ids) (sym c.in_ok-lists.ensures) c.requires;
+      lists = c.first_places-places.ensures.lists;
+      bots = c.requires;
       touches = c.touches_zone.ensures;
       leads = c.has_next.ensures;
     } in
-    is_core (g.D.Decider.verdict c.args.decider.now) c.args.world c.in_ok-lists.lists c.resize.new.self.items c.reserve.new.self c.loop-caller.seats.items c.in_ok-marks.marks first entries free many begin told ok (omega (arith, ap (λ j. j.spare) c.in_ok-reserve.ensures.ok, c.all_turns.ensures))
+    let base : IsCore verdict lists places.0.items world old.0 None places.1.items old.1 =
+    is_core verdict world lists places.0.items old.0 places.1.items old.1 is.first is.entries (free g c ∙ ap (λ n. replicate n 0) c.cells_of.ensures.value) (many g c) (begin g c) is.marks ok is.room in
+    subst (λ (l : CallerLists). IsCore verdict l c.in_ok-records-3.places.0.items world c.in_ok-records-3.records.0 None c.in_ok-records-3.places.1.items c.in_ok-records-3.records.1) (sym (same_lists g c))
+    (subst (λ (q : Places). IsCore verdict lists q.0.items world c.in_ok-records-3.records.0 None q.1.items c.in_ok-records-3.records.1) (sym (same_places g c))
+    (subst (λ (r : Records). IsCore verdict lists places.0.items world r.0 None places.1.items r.1) (sym (same_records g c)) base))
 
 pub returns-clause-opened : goal.returns-clause-opened
 returns-clause-opened g c =
-    let first = ap (λ j. j.first) c.in_ok-reserve.ensures.ok ∙ c.in_ok-journal.ensures.first in
-    let entries = ap (λ j. j.entries) c.in_ok-reserve.ensures.ok ∙ c.in_ok-journal.ensures.entries in
-    let free = grown c.cells_of-cells.result _ 0 _ _ _ c.resize.ensures.items c.if-is_err.ensures.negation c.new-tags.ensures.items c.new-tags.ensures.len ∙ ap (λ n. replicate n 0) c.cells_of-cells.ensures.value in
-    let many : length c.loop-caller.seats.items ≡ length c.in_ok-lists.lists.ids = omega (arith, c.loop-caller.invariant.0, c.loop-caller.seats.ok.0, c.callers-callers.ensures.value, c.loop-caller-test.false) in
-    let begin = subst (λ t. All (Begins t 0) c.loop-caller.seats.items) c.turns-turns.ensures c.loop-caller.invariant.1 in
-    let told = c.in_ok-marks.ensures ∙ (λ i. no_marks (c.callers-callers.ensures.value i) (c.turns-turns.ensures i)) in
-    let opens = opens_so (g.D.Decider.verdict c.args.decider.now) c.args.world c.in_ok-lists.lists c.resize.new.self.items c.reserve.new.self c.loop-caller.seats.items c.in_ok-marks.marks first entries free many begin told in
-    (λ i. record { decider = c.args.decider.now; first = first i; lists = c.in_ok-lists.lists; state = opens i }) ∙ ap (opening_core g.D.Decider.verdict c.args.decider.now c.args.world) c.in_ok-lists.ensures
+    let verdict = g.D.Decider.verdict c.args.decider.now in
+    let world = c.args.world in
+    let lists = c.args.lists.now in
+    let old = c.in_ok-records.records in
+    let places = c.in_ok-records-2.places in
+    let is = c.in_ok-records.ensures in
+    let first = ap (λ (r : Records). r.0.first) (same_records g c) ∙ is.first in
+    let opens =
+    ap (λ (q : Places). state_of q.0.items world c.in_ok-records-3.records.0 None q.1.items c.in_ok-records-3.records.1) (same_places g c)
+    ∙ ap (λ (r : Records). state_of places.0.items world r.0 None places.1.items r.1) (same_records g c)
+    ∙ opens_so verdict world lists places.0.items old.0 places.1.items old.1 is.first is.entries (free g c ∙ ap (λ n. replicate n 0) c.cells_of.ensures.value) (many g c) (begin g c) is.marks in
+    λ i. record { decider = c.args.decider.now; first = first i; lists = same_lists g c i; state = opens i }
 
 pub returns-clause-callers : goal.returns-clause-callers
-returns-clause-callers g c = ap (λ r. length r.state.callers) (returns-clause-opened g c) ∙ length-map c.args.lists.now.ids (λ _. fresh (setup (g.D.Decider.verdict c.args.decider.now) c.args.world c.args.lists.now))
+returns-clause-callers g c =
+    ap (λ r. length r.state.callers) (returns-clause-opened g c)
+    ∙ length-map c.args.lists.now.ids (λ _. fresh (setup (g.D.Decider.verdict c.args.decider.now) c.args.world c.args.lists.now))

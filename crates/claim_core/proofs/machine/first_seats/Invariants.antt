@@ -1,7 +1,7 @@
 use Rattle.std.proofs.Common.{◌≡◌, vec_len}
 use Rattle.std.specs.List.{All}
 use Rattle.claim_core.specs.Cores.{Begins}
-use Rattle.claim_core.proofs.machine.Core.make.Given as goal
+use Rattle.claim_core.proofs.machine.first_seats.Given as goal
 
 abbrev pub invariant-loop-caller : goal.invariant-loop-caller
-invariant-loop-caller g l = (vec_len l.seats ≡ l._caller) × All (Begins l.turns 0) l.seats.items
+invariant-loop-caller l = (vec_len l.seats ≡ l._caller) × All (Begins l.turns 0) l.seats.items
