@@ -11,17 +11,17 @@ ghost use Rattle.amoebot_state.specs.declared.cell.Cell.TheVariants as cell;
 ghost use Rattle.amoebot_state.specs.Limits.{most_vars, most_pairs};
 ghost use Rattle.claim_core.specs.Limits.{most_turns};
 ghost use Rattle.journal_text.specs.Journals as spec;
-ghost use Rattle.journal_text.specs.Journals.{WrittenEntry};
+ghost use Rattle.journal_text.specs.Journals.{IsJournal, IsPlainJournal, WrittenEntry};
 ghost use Rattle.journal_text.specs.Readers as reader;
 ghost use Rattle.journal_text.specs.Views as view;
 
 use crate::forms::Form;
 use amoebot_state::{Bot, Cell, CellName, End, Entry, MOST_PAIRS, Moved, PlainEntry, Port};
 use arrayvec::ArrayVec;
-use node_text::{read_bot, read_end, read_node, read_port, read_word, read_word_within};
+use node_text::{Reading, read_bot, read_end, read_node, read_port, read_word, read_word_within};
 use std::alloc::Global;
 use std::marker::Model;
-use text_tokens::{ReadRefusal, RefusalKind, TokenKind, Tokens, number, refused};
+use text_tokens::{RefusalKind, TokenKind, Tokens, number, refused};
 use tri_lattice::Node;
 
 const MOST_ENTRIES: u32 = 65_536;
@@ -29,6 +29,15 @@ const MOST_ENTRIES: u32 = 65_536;
 const LAST_CALLER: u32 = 15;
 
 const LAST_TURN: u32 = 65_535;
+
+/// How many amoebots, actions and variables there are, of which a journal names some.
+#[derive(Clone, Copy)]
+pub struct Counts {
+    pub bots: u16,
+    pub actions: u8,
+    /// At most 8.
+    pub vars: u8,
+}
 
 /// The entries of a journal with old values.
 pub type Entries = EntriesIn<Entry>;
@@ -115,7 +124,7 @@ struct Written {
 
 /// A port behind this word.
 #[tactic(auto, unfolding(crate::specs::Readers::port_behind))]
-fn read_port_behind(tokens: &mut Tokens<'_>, text: &[u8]) -> Result<Port, ReadRefusal>
+fn read_port_behind(tokens: &mut Tokens<'_>, text: &[u8]) -> Reading<Port>
     ensures { Gives (λ p. p) (reader.port_behind text.now) tokens.old result tokens.new }
 {
     read_word(tokens, text)?;
@@ -124,14 +133,14 @@ fn read_port_behind(tokens: &mut Tokens<'_>, text: &[u8]) -> Result<Port, ReadRe
 
 /// An end behind this word.
 #[tactic(auto, unfolding(crate::specs::Readers::end_behind))]
-fn read_end_behind(tokens: &mut Tokens<'_>, text: &[u8]) -> Result<End, ReadRefusal>
+fn read_end_behind(tokens: &mut Tokens<'_>, text: &[u8]) -> Reading<End>
     ensures { Gives (λ e. e) (reader.end_behind text.now) tokens.old result tokens.new }
 {
     read_word(tokens, text)?;
     read_end(tokens)
 }
 
-fn read_moved(tokens: &mut Tokens<'_>) -> Result<Moved, ReadRefusal>
+fn read_moved(tokens: &mut Tokens<'_>) -> Reading<Moved>
     ensures { Gives (λ m. m) reader.a_movement tokens.old result tokens.new }
 {
     if tokens.is_next(TokenKind::Word, b"none") {
@@ -149,7 +158,7 @@ fn read_moved(tokens: &mut Tokens<'_>) -> Result<Moved, ReadRefusal>
 }
 
 /// A cell, with the number of any amoebot.
-pub(crate) fn read_cell(tokens: &mut Tokens<'_>) -> Result<WrittenCell, ReadRefusal>
+pub(crate) fn read_cell(tokens: &mut Tokens<'_>) -> Reading<WrittenCell>
     ensures reads { Gives view.cell reader.a_cell tokens.old result tokens.new }
     ensures sure { IfErr result (λ e. e ≢ NoMemory) }
 {
@@ -163,7 +172,7 @@ pub(crate) fn read_cell(tokens: &mut Tokens<'_>) -> Result<WrittenCell, ReadRefu
 }
 
 /// The number of an occupant, or that there is none.
-fn read_occupant(tokens: &mut Tokens<'_>) -> Result<Option<u32>, ReadRefusal>
+fn read_occupant(tokens: &mut Tokens<'_>) -> Reading<Option<u32>>
     ensures { Gives (λ o. cell.Spot o) reader.an_occupant tokens.old result tokens.new }
 {
     if tokens.is_next(TokenKind::Word, b"empty") {
@@ -176,7 +185,7 @@ fn read_occupant(tokens: &mut Tokens<'_>) -> Result<Option<u32>, ReadRefusal>
 
 /// The occupant before and the word behind it, in texts with old values.
 /// Nothing is read in those without.
-fn read_old_occupant(tokens: &mut Tokens<'_>, old: bool) -> Result<Option<Option<u32>>, ReadRefusal>
+fn read_old_occupant(tokens: &mut Tokens<'_>, old: bool) -> Reading<Option<Option<u32>>>
     ensures { Gives (λ o. option_map cell.Spot o)
         (reader.an_old_value old reader.an_occupant) tokens.old result tokens.new }
 {
@@ -189,7 +198,7 @@ fn read_old_occupant(tokens: &mut Tokens<'_>, old: bool) -> Result<Option<Option
 }
 
 /// The same of the amoebot before.
-fn read_old_bot(tokens: &mut Tokens<'_>, old: bool, vars: u8) -> Result<Option<Bot>, ReadRefusal>
+fn read_old_bot(tokens: &mut Tokens<'_>, old: bool, vars: u8) -> Reading<Option<Bot>>
     requires { vars ≤ most_vars }
     ensures { Gives (λ o. option_map cell.Body o)
         (reader.an_old_value old (reader.a_bot_value vars)) tokens.old result tokens.new }
@@ -203,7 +212,7 @@ fn read_old_bot(tokens: &mut Tokens<'_>, old: bool, vars: u8) -> Result<Option<B
 }
 
 #[tactic(auto, unfolding(crate::specs::Readers::a_pair, crate::specs::Readers::a_value))]
-fn read_pair(tokens: &mut Tokens<'_>, old: bool, vars: u8) -> Result<WrittenPair, ReadRefusal>
+fn read_pair(tokens: &mut Tokens<'_>, old: bool, vars: u8) -> Reading<WrittenPair>
     requires { vars ≤ most_vars }
     ensures { Gives view.pair (reader.a_pair old vars) tokens.old result tokens.new }
 {
@@ -234,7 +243,7 @@ fn more_pair(
     old: bool,
     vars: u8,
     room: u32,
-) -> Result<Option<WrittenPair>, ReadRefusal>
+) -> Reading<Option<WrittenPair>>
     requires { vars ≤ most_vars }
     ensures reads { Gives (λ o. option_map view.pair o)
         (another spec.is_cell (reader.pair_in old vars room)) tokens.old result tokens.new }
@@ -250,12 +259,7 @@ fn more_pair(
 }
 
 /// The pairs of an entry, in place of those of the entry before.
-fn read_pairs(
-    tokens: &mut Tokens<'_>,
-    old: bool,
-    vars: u8,
-    found: &mut Pairs,
-) -> Result<(), ReadRefusal>
+fn read_pairs(tokens: &mut Tokens<'_>, old: bool, vars: u8, found: &mut Pairs) -> Reading<()>
     requires { vars ≤ most_vars }
     ensures { Gives (λ u. map view.pair found.new.items)
         (reader.all_pairs old vars) tokens.old result tokens.new }
@@ -270,7 +274,7 @@ fn read_pairs(
 }
 
 #[tactic(auto, unfolding(crate::specs::Readers::the_numbers))]
-fn read_numbers(tokens: &mut Tokens<'_>) -> Result<Numbers, ReadRefusal>
+fn read_numbers(tokens: &mut Tokens<'_>) -> Reading<Numbers>
     ensures { Gives view.numbers reader.the_numbers tokens.old result tokens.new }
 {
     let place = number(tokens)?;
@@ -294,7 +298,7 @@ fn read_written(
     vars: u8,
     before: u32,
     pairs: &mut Pairs,
-) -> Result<Written, ReadRefusal>
+) -> Reading<Written>
     requires { vars ≤ most_vars }
     ensures reads { Gives (λ w. view.entry_view w pairs.new.items)
         (reader.a_written_entry old vars before) tokens.old result tokens.new }
@@ -395,14 +399,9 @@ fn put_known<E: Form>(pairs: &[WrittenPair], bots: u16, entry: &mut E) -> bool
 /// The entry with these pairs, if its caller and turn are ones that there may be,
 /// and its action and amoebots some of so many.
 /// Else it is refused on its line.
-fn known_entry<E: Form>(
-    written: &Written,
-    pairs: &[WrittenPair],
-    bots: u16,
-    actions: u8,
-) -> Result<E, ReadRefusal>
+fn known_entry<E: Form>(written: &Written, pairs: &[WrittenPair], of: Counts) -> Reading<E>
     requires { length pairs.now ≤ most_pairs }
-    ensures { result ≡ if spec.is_known bots actions (view.entry_view written.now pairs.now).entry
+    ensures { result ≡ if spec.is_known of.bots of.actions (view.entry_view written.now pairs.now).entry
         then Ok (E.made (view.entry_view written.now pairs.now).entry)
         else Err (Refused (record { line = written.now.line; kind = BadEntry })) }
 {
@@ -415,13 +414,13 @@ fn known_entry<E: Form>(
     } = written.numbers;
     if caller > LAST_CALLER
         || turn > LAST_TURN
-        || action >= u32::from(actions)
-        || bot >= u32::from(bots)
+        || action >= u32::from(of.actions)
+        || bot >= u32::from(of.bots)
     {
         return Err(refused(written.line, RefusalKind::BadEntry));
     }
     let mut entry = E::begin(caller as u8, turn, bot as u16, action as u8, written.moved);
-    if !put_known(pairs, bots, &mut entry) {
+    if !put_known(pairs, of.bots, &mut entry) {
         return Err(refused(written.line, RefusalKind::BadEntry));
     }
     Ok(entry)
@@ -431,40 +430,32 @@ fn known_entry<E: Form>(
 #[tactic(auto, unfolding(crate::specs::Readers::an_entry))]
 fn read_entry<E: Form>(
     tokens: &mut Tokens<'_>,
-    bots: u16,
-    actions: u8,
-    vars: u8,
+    of: Counts,
     before: u32,
     pairs: &mut Pairs,
-) -> Result<E, ReadRefusal>
-    requires { vars ≤ most_vars }
-    ensures reads { Gives (λ e. e) (reader.an_entry E.HAS_OLD E.made bots actions vars before)
+) -> Reading<E>
+    requires { of.vars ≤ most_vars }
+    ensures reads { Gives (λ e. e) (reader.an_entry E.HAS_OLD E.made of.bots of.actions of.vars before)
         tokens.old result tokens.new }
     ensures room { IfOk result (λ _. before < most_turns) }
 {
-    let written = read_written(tokens, E::HAS_OLD, vars, before, pairs)?;
+    let written = read_written(tokens, E::HAS_OLD, of.vars, before, pairs)?;
     if written.numbers.place != before {
         return Err(refused(written.line, RefusalKind::BadPlace));
     }
-    known_entry(&written, pairs.as_slice(), bots, actions)
+    known_entry(&written, pairs.as_slice(), of)
 }
 
-fn read_entries<E: Form>(
-    alloc: Global,
-    tokens: &mut Tokens<'_>,
-    bots: u16,
-    actions: u8,
-    vars: u8,
-) -> Result<Vec<E>, ReadRefusal>
-    requires { vars ≤ most_vars }
-    ensures { Gives (λ v. v.items) (reader.all_entries E.HAS_OLD E.made bots actions vars)
+fn read_entries<E: Form>(alloc: Global, tokens: &mut Tokens<'_>, of: Counts) -> Reading<Vec<E>>
+    requires { of.vars ≤ most_vars }
+    ensures { Gives (λ v. v.items) (reader.all_entries E.HAS_OLD E.made of.bots of.actions of.vars)
         tokens.old result tokens.new }
 {
     let mut found = Vec::new(alloc);
     let mut pairs = ArrayVec::new();
     let mut before = 0;
     while tokens.is_next(TokenKind::Word, b"entry") {
-        let entry = read_entry(tokens, bots, actions, vars, before, &mut pairs)?;
+        let entry = read_entry(tokens, of, before, &mut pairs)?;
         found.push(entry)?;
         before += 1;
     }
@@ -472,68 +463,46 @@ fn read_entries<E: Form>(
 }
 
 #[tactic(auto, unfolding(crate::specs::Readers::journal_by))]
-fn read_whole<E: Form>(
-    alloc: Global,
-    tokens: &mut Tokens<'_>,
-    bots: u16,
-    actions: u8,
-    vars: u8,
-) -> Result<Vec<E>, ReadRefusal>
-    requires { vars ≤ most_vars }
-    ensures { Gives (λ v. v.items) (reader.journal_by E.HAS_OLD E.made bots actions vars)
+fn read_whole<E: Form>(alloc: Global, tokens: &mut Tokens<'_>, of: Counts) -> Reading<Vec<E>>
+    requires { of.vars ≤ most_vars }
+    ensures { Gives (λ v. v.items) (reader.journal_by E.HAS_OLD E.made of.bots of.actions of.vars)
         tokens.old result tokens.new }
 {
     read_word(tokens, b"journal")?;
-    let entries = read_entries(alloc, tokens, bots, actions, vars)?;
+    let entries = read_entries(alloc, tokens, of)?;
     read_word(tokens, b"end")?;
     Ok(entries)
 }
 
-fn read_section<E: Form>(
-    alloc: Global,
-    tokens: &mut Tokens<'_>,
-    bots: u16,
-    actions: u8,
-    vars: u8,
-) -> Result<Vec<E>, ReadRefusal>
-    requires { vars ≤ most_vars }
-    ensures tells { TellsOf (spec.IsJournalOf E.HAS_OLD E.made bots actions vars) (λ v. v.items)
+fn read_section<E: Form>(alloc: Global, tokens: &mut Tokens<'_>, of: Counts) -> Reading<Vec<E>>
+    requires { of.vars ≤ most_vars }
+    ensures tells { TellsOf (spec.IsJournalOf E.HAS_OLD E.made of.bots of.actions of.vars) (λ v. v.items)
         tokens.old result tokens.new }
-    ensures reads { ReadsOf (spec.IsJournalOf E.HAS_OLD E.made bots actions vars) (λ v. v.items)
+    ensures reads { ReadsOf (spec.IsJournalOf E.HAS_OLD E.made of.bots of.actions of.vars) (λ v. v.items)
         tokens.old result tokens.new }
 {
-    read_whole(alloc, tokens, bots, actions, vars)
+    read_whole(alloc, tokens, of)
 }
 
 /// Reads a journal with old values up to its `end`, of a world of so many amoebots,
 /// a program of so many actions, and so many variables, at most 8.
-pub fn read_journal(
-    alloc: Global,
-    tokens: &mut Tokens<'_>,
-    bots: u16,
-    actions: u8,
-    vars: u8,
-) -> Result<Entries, ReadRefusal>
-    requires { vars ≤ most_vars }
-    ensures tells { TellsOf (spec.IsJournal bots actions vars) (λ e. e) tokens.old result tokens.new }
-    ensures reads { ReadsOf (spec.IsJournal bots actions vars) (λ e. e) tokens.old result tokens.new }
+pub fn read_journal(alloc: Global, tokens: &mut Tokens<'_>, of: Counts) -> Reading<Entries>
+    requires { of.vars ≤ most_vars }
+    ensures tells { TellsOf (IsJournal of.bots of.actions of.vars) (λ e. e) tokens.old result tokens.new }
+    ensures reads { ReadsOf (IsJournal of.bots of.actions of.vars) (λ e. e) tokens.old result tokens.new }
 {
-    let entries = read_section(alloc, tokens, bots, actions, vars)?;
+    let entries = read_section(alloc, tokens, of)?;
     Ok(EntriesIn { entries })
 }
 
 /// The same of a journal without old values.
-pub fn read_plain(
-    alloc: Global,
-    tokens: &mut Tokens<'_>,
-    bots: u16,
-    actions: u8,
-    vars: u8,
-) -> Result<PlainEntries, ReadRefusal>
-    requires { vars ≤ most_vars }
-    ensures tells { TellsOf (spec.IsPlainJournal bots actions vars) (λ e. e) tokens.old result tokens.new }
-    ensures reads { ReadsOf (spec.IsPlainJournal bots actions vars) (λ e. e) tokens.old result tokens.new }
+pub fn read_plain(alloc: Global, tokens: &mut Tokens<'_>, of: Counts) -> Reading<PlainEntries>
+    requires { of.vars ≤ most_vars }
+    ensures tells { TellsOf (IsPlainJournal of.bots of.actions of.vars) (λ e. e)
+        tokens.old result tokens.new }
+    ensures reads { ReadsOf (IsPlainJournal of.bots of.actions of.vars) (λ e. e)
+        tokens.old result tokens.new }
 {
-    let entries = read_section(alloc, tokens, bots, actions, vars)?;
+    let entries = read_section(alloc, tokens, of)?;
     Ok(EntriesIn { entries })
 }

@@ -7,7 +7,7 @@ mod laws;
 mod printing;
 mod turns;
 
-pub use journal::{Entries, EntriesIn, PlainEntries, read_journal, read_plain};
+pub use journal::{Counts, Entries, EntriesIn, PlainEntries, read_journal, read_plain};
 pub use laws::{
     journal_is_decided, journals_read_back, plain_journal_is_decided, plain_journals_read_back,
     plain_keeps_limits, texts_are_printed, turns_are_decided, turns_read_back,

@@ -10,8 +10,8 @@ ghost use Rattle.journal_text.specs.Turns as spec;
 ghost use Rattle.journal_text.specs.Readers as reader;
 
 use crate::journal::read_cell;
-use node_text::{may_have_walls, read_word};
-use text_tokens::{ReadRefusal, RefusalKind, TokenKind, Tokens, number, refused};
+use node_text::{Reading, may_have_walls, read_word};
+use text_tokens::{RefusalKind, TokenKind, Tokens, number, refused};
 
 /// The words of failures. The last one is for texts that may have walls.
 const FAILURES: [&str; 12] = [
@@ -50,7 +50,7 @@ fn is_one_of(word: &[u8], words: &[&str]) -> bool
 
 /// The word of a failure, for its line.
 #[tactic(auto, unfolding(text_tokens::specs::Reading::the_line))]
-fn read_failure(tokens: &mut Tokens<'_>, version: u8) -> Result<u32, ReadRefusal>
+fn read_failure(tokens: &mut Tokens<'_>, version: u8) -> Reading<u32>
     ensures reads { Gives (λ line. line)
         (reading.the_line (spec.is_failure version)) tokens.old result tokens.new }
     ensures sure { IfErr result (λ e. e ≢ NoMemory) }
@@ -64,7 +64,7 @@ fn read_failure(tokens: &mut Tokens<'_>, version: u8) -> Result<u32, ReadRefusal
 
 /// A number behind this word.
 #[tactic(auto, unfolding(crate::specs::Readers::placed_mark))]
-fn read_placed(tokens: &mut Tokens<'_>, text: &[u8]) -> Result<(), ReadRefusal>
+fn read_placed(tokens: &mut Tokens<'_>, text: &[u8]) -> Reading<()>
     ensures reads { Gives (λ u. u) (reader.placed_mark text.now) tokens.old result tokens.new }
     ensures sure { IfErr result (λ e. e ≢ NoMemory) }
 {
@@ -74,7 +74,7 @@ fn read_placed(tokens: &mut Tokens<'_>, text: &[u8]) -> Result<(), ReadRefusal>
 }
 
 #[tactic(auto, unfolding(crate::specs::Readers::a_failed))]
-fn read_failed(tokens: &mut Tokens<'_>, version: u8) -> Result<(), ReadRefusal>
+fn read_failed(tokens: &mut Tokens<'_>, version: u8) -> Reading<()>
     ensures reads { Gives (λ u. u) (reader.a_failed version) tokens.old result tokens.new }
     ensures sure { IfErr result (λ e. e ≢ NoMemory) }
 {
@@ -86,7 +86,7 @@ fn read_failed(tokens: &mut Tokens<'_>, version: u8) -> Result<(), ReadRefusal>
 
 /// The caller, the turn and the amoebot of a claim.
 #[tactic(auto, unfolding(crate::specs::Readers::a_claimant))]
-fn read_claimant(tokens: &mut Tokens<'_>) -> Result<(), ReadRefusal>
+fn read_claimant(tokens: &mut Tokens<'_>) -> Reading<()>
     ensures reads { Gives (λ u. u) reader.a_claimant tokens.old result tokens.new }
     ensures sure { IfErr result (λ e. e ≢ NoMemory) }
 {
@@ -98,7 +98,7 @@ fn read_claimant(tokens: &mut Tokens<'_>) -> Result<(), ReadRefusal>
 }
 
 #[tactic(auto, unfolding(crate::specs::Readers::a_busy))]
-fn read_busy(tokens: &mut Tokens<'_>) -> Result<(), ReadRefusal>
+fn read_busy(tokens: &mut Tokens<'_>) -> Reading<()>
     ensures reads { Gives (λ u. u) reader.a_busy tokens.old result tokens.new }
     ensures sure { IfErr result (λ e. e ≢ NoMemory) }
 {
@@ -108,7 +108,7 @@ fn read_busy(tokens: &mut Tokens<'_>) -> Result<(), ReadRefusal>
     read_placed(tokens, b"place")
 }
 
-fn read_mark(tokens: &mut Tokens<'_>, version: u8) -> Result<(), ReadRefusal>
+fn read_mark(tokens: &mut Tokens<'_>, version: u8) -> Reading<()>
     ensures reads { Gives (λ u. u) (reader.a_mark version) tokens.old result tokens.new }
     ensures sure { IfErr result (λ e. e ≢ NoMemory) }
 {
@@ -124,7 +124,7 @@ fn read_mark(tokens: &mut Tokens<'_>, version: u8) -> Result<(), ReadRefusal>
 }
 
 #[tactic(auto, unfolding(crate::specs::Readers::a_turn))]
-fn read_turn(tokens: &mut Tokens<'_>, version: u8) -> Result<(), ReadRefusal>
+fn read_turn(tokens: &mut Tokens<'_>, version: u8) -> Reading<()>
     ensures reads { Gives (λ u. u) (reader.a_turn version) tokens.old result tokens.new }
     ensures sure { IfErr result (λ e. e ≢ NoMemory) }
 {
@@ -135,7 +135,7 @@ fn read_turn(tokens: &mut Tokens<'_>, version: u8) -> Result<(), ReadRefusal>
 }
 
 /// One more turn, if one comes.
-fn more_turn(tokens: &mut Tokens<'_>, version: u8) -> Result<Option<()>, ReadRefusal>
+fn more_turn(tokens: &mut Tokens<'_>, version: u8) -> Reading<Option<()>>
     ensures reads { Gives (λ o. o)
         (another spec.is_turn (reader.a_turn version)) tokens.old result tokens.new }
     ensures sure { IfErr result (λ e. e ≢ NoMemory) }
@@ -147,7 +147,7 @@ fn more_turn(tokens: &mut Tokens<'_>, version: u8) -> Result<Option<()>, ReadRef
     Ok(Some(()))
 }
 
-fn read_all_turns(tokens: &mut Tokens<'_>, version: u8) -> Result<(), ReadRefusal>
+fn read_all_turns(tokens: &mut Tokens<'_>, version: u8) -> Reading<()>
     ensures reads { Gives (λ u. u)
         (reader.unheeded (reader.all_turn_lines version)) tokens.old result tokens.new }
     ensures sure { IfErr result (λ e. e ≢ NoMemory) }
@@ -157,7 +157,7 @@ fn read_all_turns(tokens: &mut Tokens<'_>, version: u8) -> Result<(), ReadRefusa
 }
 
 #[tactic(auto, unfolding(crate::specs::Readers::the_turns))]
-fn read_whole(tokens: &mut Tokens<'_>, version: u8) -> Result<(), ReadRefusal>
+fn read_whole(tokens: &mut Tokens<'_>, version: u8) -> Reading<()>
     ensures reads { Gives (λ u. u) (reader.the_turns version) tokens.old result tokens.new }
     ensures sure { IfErr result (λ e. e ≢ NoMemory) }
 {
@@ -169,7 +169,7 @@ fn read_whole(tokens: &mut Tokens<'_>, version: u8) -> Result<(), ReadRefusal>
 
 /// Reads the section `turns` of a document of the version up to its `end`, by its grammar alone.
 /// It takes no memory, and never answers out of memory.
-pub fn read_turns(tokens: &mut Tokens<'_>, version: u8) -> Result<(), ReadRefusal>
+pub fn read_turns(tokens: &mut Tokens<'_>, version: u8) -> Reading<()>
     ensures tells { TellsOf (spec.IsTurns version) (λ u. u) tokens.old result tokens.new }
     ensures reads { ReadsOf (spec.IsTurns version) (λ u. u) tokens.old result tokens.new }
     ensures sure { IfErr result (λ e. e ≢ NoMemory) }

@@ -17,7 +17,7 @@ use Rattle.amoebot_state.specs.declared.verdict.Moved.TheVariants as moved
 use Rattle.amoebot_state.specs.Configs.{Config, frame_of, with_these}
 use Rattle.amoebot_state.specs.Pairs.{CellChange}
 use Rattle.amoebot_state.specs.Ports.{port}
-use Rattle.amoebot_state.specs.Steps.{plain_entry}
+use Rattle.amoebot_state.specs.Steps.{entry_of, plain_entry}
 use Rattle.amoebot_state.specs.Examples.{eight_by_eight, zeros}
 use Rattle.action_tree.specs.Trees as tree
 use Rattle.action_tree.specs.Trees.{Name, Literal, atom, through, expand, at_end, fixed, no_stmts}
@@ -27,7 +27,7 @@ use Rattle.shape_text.specs.ShapeRows.{shape_bot}
 use Rattle.schedule_text.specs.Lists.{lists_of}
 use Rattle.shape_files.specs.declared.section_kind.Form.{Form}
 use Rattle.shape_files.specs.declared.section_kind.Form.TheVariants.{Run, Interleave, Replay, Check, Measure}
-use Rattle.shape_files.specs.Documents.{Contents, FormSays}
+use Rattle.shape_files.specs.Documents.{Contents, FormSays, nothing_yet}
 
 pub record DocumentRow : Type 0 where
   pub form : Form
@@ -122,31 +122,20 @@ abbrev from_to : CellName → Cell → Cell → CellChange
 from_to n before after = (n, before, after)
 
 abbrev pub entry_made : Entry
-entry_made = record {
-  caller = 0;
-  turn = 0;
-  bot = 0;
-  action = 0;
-  moved = moved.Expand (port Head 0);
-  patch =
-      from_to (name.Spot (a_node_of (pos 3) (pos 3))) (cell.Spot None) (cell.Spot (Some 0))
-      ∷ from_to (name.Body 0) (cell.Body bot_before) (cell.Body bot_after) ∷ [];
-}
+entry_made =
+    entry_of 0 0 0 (record {
+      action = 0;
+      moved = moved.Expand (port Head 0);
+      patch =
+          from_to (name.Spot (a_node_of (pos 3) (pos 3))) (cell.Spot None) (cell.Spot (Some 0))
+          ∷ from_to (name.Body 0) (cell.Body bot_before) (cell.Body bot_after) ∷ [];
+    })
 
 abbrev pub plain_made : PlainEntry
 plain_made = plain_entry entry_made
 
 abbrev pub only_program : Contents
-only_program = record {
-  version = 1;
-  checked = Some out;
-  world = None;
-  lists = None;
-  schedule = None;
-  entries = None;
-  plain = None;
-  final_world = None;
-}
+only_program = record (nothing_yet 1) { checked = Some out }
 
 abbrev pub program_and_shape : Contents
 program_and_shape = record only_program { world = Some (shape_of_one bot_before) }

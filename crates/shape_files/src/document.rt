@@ -13,13 +13,14 @@ use crate::Form;
 use crate::forms::read_form;
 use crate::head::{LEAST_VERSION, read_version};
 use crate::parts::{Parts, Sections};
+use node_text::Reading;
 use std::alloc::Global;
-use text_tokens::{ReadRefusal, RefusalKind, Tokens};
+use text_tokens::{RefusalKind, Tokens};
 
 /// Reads bytes that are a document of the form: its sections, or its first fault.
 ///
 /// The bytes are read once, from the front on, and none of them is kept.
-pub fn read_sections(alloc: Global, bytes: &[u8], form: Form) -> Result<Sections, ReadRefusal>
+pub fn read_sections(alloc: Global, bytes: &[u8], form: Form) -> Reading<Sections>
     requires { IsCountable bytes.now }
     ensures { ReadsInput (IsDocument form) Trailing (λ s. s) bytes.now result }
 {
@@ -30,12 +31,7 @@ pub fn read_sections(alloc: Global, bytes: &[u8], form: Form) -> Result<Sections
 /// its sections, or its first fault.
 ///
 /// A version below the least is a `BadRange` at its number, before every fault behind it.
-pub fn read_sections_from(
-    alloc: Global,
-    bytes: &[u8],
-    form: Form,
-    least: u8,
-) -> Result<Sections, ReadRefusal>
+pub fn read_sections_from(alloc: Global, bytes: &[u8], form: Form, least: u8) -> Reading<Sections>
     requires countable { IsCountable bytes.now }
     requires version { least_version ≤ least }
     ensures { ReadsInput (IsDocumentFrom least form) Trailing (λ s. s) bytes.now result }
@@ -46,12 +42,7 @@ pub fn read_sections_from(
     Ok(Sections::new(parts))
 }
 
-fn read_document(
-    alloc: Global,
-    tokens: &mut Tokens<'_>,
-    form: Form,
-    least: u8,
-) -> Result<Parts, ReadRefusal>
+fn read_document(alloc: Global, tokens: &mut Tokens<'_>, form: Form, least: u8) -> Reading<Parts>
     ensures { Gives contents (document_from least form) tokens.old result tokens.new }
 {
     let version = read_version(tokens, least)?;

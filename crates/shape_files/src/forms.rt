@@ -8,16 +8,12 @@ use crate::head::{is_next, missing};
 use crate::parts::Parts;
 use crate::section::read_section;
 use crate::{Form, Section};
+use node_text::Reading;
 use std::alloc::Global;
-use text_tokens::{ReadRefusal, Tokens};
+use text_tokens::Tokens;
 
 /// Reads a section that is needed.
-fn need(
-    alloc: Global,
-    tokens: &mut Tokens<'_>,
-    parts: &mut Parts,
-    section: Section,
-) -> Result<(), ReadRefusal>
+fn need(alloc: Global, tokens: &mut Tokens<'_>, parts: &mut Parts, section: Section) -> Reading<()>
     ensures { Gives (λ _. contents parts.new)
         (needed_section section (contents parts.old)) tokens.old result tokens.new }
 {
@@ -28,12 +24,7 @@ fn need(
 }
 
 /// Reads a section if it comes.
-fn may(
-    alloc: Global,
-    tokens: &mut Tokens<'_>,
-    parts: &mut Parts,
-    section: Section,
-) -> Result<bool, ReadRefusal>
+fn may(alloc: Global, tokens: &mut Tokens<'_>, parts: &mut Parts, section: Section) -> Reading<bool>
     ensures { Gives (λ came. (came, contents parts.new))
         (optional_section section (contents parts.old)) tokens.old result tokens.new }
 {
@@ -46,7 +37,7 @@ fn may(
 
 /// Lists and perhaps a schedule, or neither.
 #[tactic(auto, unfolding(crate::specs::Straight::callers))]
-fn may_lists(alloc: Global, tokens: &mut Tokens<'_>, parts: &mut Parts) -> Result<(), ReadRefusal>
+fn may_lists(alloc: Global, tokens: &mut Tokens<'_>, parts: &mut Parts) -> Reading<()>
     ensures { Gives (λ _. contents parts.new) (callers (contents parts.old)) tokens.old result tokens.new }
 {
     if may(alloc, tokens, parts, Section::Lists)? {
@@ -57,11 +48,7 @@ fn may_lists(alloc: Global, tokens: &mut Tokens<'_>, parts: &mut Parts) -> Resul
 
 /// What stands behind a journal: the final shape, and perhaps turns.
 #[tactic(auto, unfolding(crate::specs::Straight::record_behind))]
-fn behind_journal(
-    alloc: Global,
-    tokens: &mut Tokens<'_>,
-    parts: &mut Parts,
-) -> Result<(), ReadRefusal>
+fn behind_journal(alloc: Global, tokens: &mut Tokens<'_>, parts: &mut Parts) -> Reading<()>
     ensures { Gives (λ _. contents parts.new)
         (record_behind (contents parts.old)) tokens.old result tokens.new }
 {
@@ -72,12 +59,7 @@ fn behind_journal(
 
 /// What stands behind the program.
 #[tactic(auto, unfolding(crate::specs::Straight::behind_program))]
-fn read_behind_program(
-    alloc: Global,
-    tokens: &mut Tokens<'_>,
-    parts: &mut Parts,
-    form: Form,
-) -> Result<(), ReadRefusal>
+fn the_rest(alloc: Global, tokens: &mut Tokens<'_>, parts: &mut Parts, form: Form) -> Reading<()>
     ensures { Gives (λ _. contents parts.new)
         (behind_program form (contents parts.old)) tokens.old result tokens.new }
 {
@@ -123,10 +105,10 @@ pub(crate) fn read_form(
     tokens: &mut Tokens<'_>,
     parts: &mut Parts,
     form: Form,
-) -> Result<(), ReadRefusal>
+) -> Reading<()>
     ensures { Gives (λ _. contents parts.new)
         (straight form (contents parts.old)) tokens.old result tokens.new }
 {
     need(alloc, tokens, parts, Section::Program)?;
-    read_behind_program(alloc, tokens, parts, form)
+    the_rest(alloc, tokens, parts, form)
 }

@@ -9,15 +9,15 @@ use crate::Section;
 use crate::parts::Parts;
 use action_check::{Checked, check};
 use action_parser::parse_program;
-use journal_text::{read_journal, read_plain, read_turns};
-use node_text::has_old_values;
+use journal_text::{Counts, read_journal, read_plain, read_turns};
+use node_text::{Reading, has_old_values};
 use schedule_text::{read_lists, read_schedule};
 use shape_text::{read_final, read_shape};
 use std::alloc::Global;
-use text_tokens::{ReadRefusal, Tokens};
+use text_tokens::Tokens;
 
 /// A program that keeps the rules on names and ranges, which are judged behind its `end`.
-fn read_program(alloc: Global, tokens: &mut Tokens<'_>) -> Result<Checked, ReadRefusal>
+fn read_program(alloc: Global, tokens: &mut Tokens<'_>) -> Reading<Checked>
     ensures { Gives (λ p. p) a_checked_program tokens.old result tokens.new }
 {
     let program = parse_program(alloc, tokens)?;
@@ -25,11 +25,7 @@ fn read_program(alloc: Global, tokens: &mut Tokens<'_>) -> Result<Checked, ReadR
 }
 
 /// Reads a journal, with old values or without, and keeps its entries.
-fn read_entries(
-    alloc: Global,
-    tokens: &mut Tokens<'_>,
-    parts: &mut Parts,
-) -> Result<(), ReadRefusal>
+fn read_entries(alloc: Global, tokens: &mut Tokens<'_>, parts: &mut Parts) -> Reading<()>
     ensures { Gives (λ _. contents parts.new)
         (journal_body (part.has_old_values (contents parts.old).version) (contents parts.old))
         tokens.old result tokens.new }
@@ -37,10 +33,15 @@ fn read_entries(
     let bots = parts.bots();
     let actions = parts.actions();
     let vars = parts.vars();
+    let of = Counts {
+        bots,
+        actions,
+        vars,
+    };
     if has_old_values(parts.version) {
-        parts.entries = Some(read_journal(alloc, tokens, bots, actions, vars)?);
+        parts.entries = Some(read_journal(alloc, tokens, of)?);
     } else {
-        parts.plain = Some(read_plain(alloc, tokens, bots, actions, vars)?);
+        parts.plain = Some(read_plain(alloc, tokens, of)?);
     }
     Ok(())
 }
@@ -51,7 +52,7 @@ pub(crate) fn read_section(
     tokens: &mut Tokens<'_>,
     parts: &mut Parts,
     section: Section,
-) -> Result<(), ReadRefusal>
+) -> Reading<()>
     ensures { Gives (λ _. contents parts.new)
         (body section (contents parts.old)) tokens.old result tokens.new }
 {

@@ -1,11 +1,13 @@
 //! Journals read and printed, with old values and without them.
 
-ghost use Rattle.std.specs.Prelude.{◌≤◌};
+ghost use Rattle.std.specs.Prelude.{◌≡◌, ◌≤◌};
 ghost use Rattle.amoebot_state.specs.Limits.{most_vars};
 
 use crate::turns::{MOST_BYTES, at, maybe_at};
 use amoebot_state::{Bot, Cell, CellName, Chir, End, Entry, Moved, Patch, PlainEntry, Port};
-use journal_text::{Entries, PlainEntries, print_journal, print_plain, read_journal, read_plain};
+use journal_text::{
+    Counts, Entries, PlainEntries, print_journal, print_plain, read_journal, read_plain,
+};
 use std::alloc::Global;
 use std::test::*;
 use text_tokens::RefusalKind::{
@@ -14,40 +16,38 @@ use text_tokens::RefusalKind::{
 use text_tokens::{ReadRefusal, RefusalKind, Text, Tokens};
 use tri_lattice::Node;
 
+fn counts(bots: u16, actions: u8, vars: u8) -> Counts
+    ensures { result.vars ≡ vars }
+{
+    Counts {
+        bots,
+        actions,
+        vars,
+    }
+}
+
 /// The entries of a whole text of a journal with old values.
-fn read_text(
-    alloc: Global,
-    text: &[u8],
-    bots: u16,
-    actions: u8,
-    vars: u8,
-) -> Result<Entries, ReadRefusal>
-    requires { vars ≤ most_vars }
+fn read_text(alloc: Global, text: &[u8], of: Counts) -> Result<Entries, ReadRefusal>
+    requires { of.vars ≤ most_vars }
 {
     if text.len() > MOST_BYTES {
         return Err(ReadRefusal::NoMemory);
     }
     let mut tokens = Tokens::new(text);
-    let entries = read_journal(alloc, &mut tokens, bots, actions, vars)?;
+    let entries = read_journal(alloc, &mut tokens, of)?;
     tokens.end(Trailing)?;
     Ok(entries)
 }
 
 /// Those of a whole text of a journal without old values.
-fn read_plain_text(
-    alloc: Global,
-    text: &[u8],
-    bots: u16,
-    actions: u8,
-    vars: u8,
-) -> Result<PlainEntries, ReadRefusal>
-    requires { vars ≤ most_vars }
+fn read_plain_text(alloc: Global, text: &[u8], of: Counts) -> Result<PlainEntries, ReadRefusal>
+    requires { of.vars ≤ most_vars }
 {
     if text.len() > MOST_BYTES {
         return Err(ReadRefusal::NoMemory);
     }
     let mut tokens = Tokens::new(text);
-    let entries = read_plain(alloc, &mut tokens, bots, actions, vars)?;
+    let entries = read_plain(alloc, &mut tokens, of)?;
     tokens.end(Trailing)?;
     Ok(entries)
 }
@@ -55,16 +55,16 @@ fn read_plain_text(
 /// The first fault of a text of a journal without old values, of 3 amoebots,
 /// 2 actions and 1 variable.
 fn plain_fault(alloc: Global, text: &[u8]) -> Option<ReadRefusal> {
-    read_plain_text(alloc, text, 3, 2, 1).err()
+    read_plain_text(alloc, text, counts(3, 2, 1)).err()
 }
 
 /// The first fault of a text of a journal with old values or without them, of 1 amoebot,
 /// 1 action and no variable.
 fn fault_by(alloc: Global, text: &[u8], old: bool) -> Option<ReadRefusal> {
     if old {
-        read_text(alloc, text, 1, 1, 0).err()
+        read_text(alloc, text, counts(1, 1, 0)).err()
     } else {
-        read_plain_text(alloc, text, 1, 1, 0).err()
+        read_plain_text(alloc, text, counts(1, 1, 0)).err()
     }
 }
 
@@ -96,10 +96,10 @@ fn all_tell(entries: &[Entry], plain: &[PlainEntry]) -> bool {
 fn is_kept(alloc: Global, text: &[u8], plain: &[u8], bots: u16, actions: u8, vars: u8) -> bool
     requires { vars ≤ most_vars }
 {
-    let Ok(read) = read_text(alloc, text, bots, actions, vars) else {
+    let Ok(read) = read_text(alloc, text, counts(bots, actions, vars)) else {
         return false;
     };
-    let Ok(without) = read_plain_text(alloc, plain, bots, actions, vars) else {
+    let Ok(without) = read_plain_text(alloc, plain, counts(bots, actions, vars)) else {
         return false;
     };
     let Ok(printed) = print_journal(alloc, read.entries(), vars) else {
@@ -310,7 +310,9 @@ fn an_expansion_is_read_with_its_old_values(rt: HostRuntime) -> Result<(), Fail>
     let text = b"journal\n\
         entry 0 0 0 0 0 expand head 0 spot 3 3 empty to 0 body 0 2 3 2 3 0 + to 3 3 2 3 0 +\nend\n"
         .as_slice();
-    let read = read_text(rt.alloc(), text, 1, 1, 0).ok().ok_or("not read")?;
+    let read = read_text(rt.alloc(), text, counts(1, 1, 0))
+        .ok()
+        .ok_or("not read")?;
     assert!(rt; read.entries().len() == 1);
     assert!(rt; read.entries()[0].patch.triples() == expansion().patch.triples());
     Ok(())
@@ -320,7 +322,7 @@ fn an_expansion_is_read_with_its_old_values(rt: HostRuntime) -> Result<(), Fail>
 fn an_expansion_is_read_without_old_values(rt: HostRuntime) -> Result<(), Fail> {
     let text =
         b"journal\nentry 0 0 0 0 0 expand head 0 spot 3 3 0 body 0 3 3 2 3 0 +\nend\n".as_slice();
-    let read = read_plain_text(rt.alloc(), text, 1, 1, 0)
+    let read = read_plain_text(rt.alloc(), text, counts(1, 1, 0))
         .ok()
         .ok_or("not read")?;
     assert!(rt; read.entries().len() == 1);
@@ -706,7 +708,7 @@ fn long_text(alloc: Global, count: u32) -> Option<Text> {
 #[test]
 fn a_journal_with_old_values_has_at_most_65536_entries(rt: HostRuntime) -> Result<(), Fail> {
     let full = long_text(rt.alloc(), 65_536).ok_or("no text")?;
-    let read = read_text(rt.alloc(), full.bytes(), 1, 1, 0)
+    let read = read_text(rt.alloc(), full.bytes(), counts(1, 1, 0))
         .ok()
         .ok_or("not read")?;
     assert!(rt; read.entries().len() == 65_536);
@@ -718,7 +720,7 @@ fn a_journal_with_old_values_has_at_most_65536_entries(rt: HostRuntime) -> Resul
 #[test]
 fn a_plain_journal_has_at_most_65536_entries(rt: HostRuntime) -> Result<(), Fail> {
     let full = long_text(rt.alloc(), 65_536).ok_or("no text")?;
-    let read = read_plain_text(rt.alloc(), full.bytes(), 1, 1, 0)
+    let read = read_plain_text(rt.alloc(), full.bytes(), counts(1, 1, 0))
         .ok()
         .ok_or("not read")?;
     assert!(rt; read.entries().len() == 65_536);

@@ -10,11 +10,11 @@ use Rattle.journal_text.specs.Readers.{an_entry, entries_from, all_entries}
 use Rattle.journal_text.proofs.JournalLaws.{no_pair, entry_elements}
 use Rattle.journal_text.proofs.journal.read_entries.Goals as goal
 
-pub loop-pairs-init : goal.loop-pairs-init
+pub loop-of-init : goal.loop-of-init
 unfolding entries_from
-loop-pairs-init g c = record {
+loop-of-init g c = record {
   reads =
-      loop_begins (all_entries g.E.Form.HAS_OLD g.E.Form.made c.args.bots c.args.actions c.args.vars)
+      loop_begins (all_entries g.E.Form.HAS_OLD g.E.Form.made c.args.of.bots c.args.of.actions c.args.of.vars)
       c.args.tokens.now c.new-found.result.items c.new-found.ensures.items;
   few = omega arith;
 }
@@ -23,31 +23,31 @@ pub returns-in_err-entry : goal.returns-in_err-entry
 returns-in_err-entry g c =
     let p = err_from_is_err_and c.from_residual.result c.from_residual.ensures.1 in
     let old = g.E.Form.HAS_OLD in let made = g.E.Form.made in
-    let bots = c.args.bots in let actions = c.args.actions in let vars = c.args.vars in
-    let before = c.loop-pairs.before in let here = c.loop-pairs.tokens in
+    let bots = c.args.of.bots in let actions = c.args.of.actions in let vars = c.args.of.vars in
+    let before = c.loop-of.before in let here = c.loop-of.tokens in
     let refusal = c.in_err-entry.field-0.0 in let there = c.read_entry.new.tokens in
     let fails =
     another_fails is_entry (an_entry old made bots actions vars before) here
-    (sym c.is_next.ensures ∙ c.loop-pairs-test.true) refusal there c.in_err-entry.ensures.reads in
+    (sym c.is_next.ensures ∙ c.loop-of-test.true) refusal there c.in_err-entry.ensures.reads in
     rw (p.1, p.2) (loop_fails (IsEntryBy old made bots actions vars) (an_entry old made bots actions vars)
     one_more is_entry (no_pair old vars) is_end (entry_elements old vars made bots actions)
-    (all_entries old made bots actions vars) c.args.tokens.now c.loop-pairs.found.items before here
-    c.loop-pairs.invariant.reads refusal there fails)
+    (all_entries old made bots actions vars) c.args.tokens.now c.loop-of.found.items before here
+    c.loop-of.invariant.reads refusal there fails)
 
-pub loop-pairs-preserved : goal.loop-pairs-preserved
-loop-pairs-preserved g c =
+pub loop-of-preserved : goal.loop-of-preserved
+loop-of-preserved g c =
     let old = g.E.Form.HAS_OLD in let made = g.E.Form.made in
-    let bots = c.args.bots in let actions = c.args.actions in let vars = c.args.vars in
-    let before = c.loop-pairs.before in let here = c.loop-pairs.tokens in
+    let bots = c.args.of.bots in let actions = c.args.of.actions in let vars = c.args.of.vars in
+    let before = c.loop-of.before in let here = c.loop-of.tokens in
     let entry = c.in_ok-entry.entry in let there = c.read_entry.new.tokens in
     let next =
     another_some is_entry (an_entry old made bots actions vars before) here
-    (sym c.is_next.ensures ∙ c.loop-pairs-test.true) entry there c.in_ok-entry.ensures.reads in
+    (sym c.is_next.ensures ∙ c.loop-of-test.true) entry there c.in_ok-entry.ensures.reads in
     let more =
     loop_goes_on (IsEntryBy old made bots actions vars) (an_entry old made bots actions vars)
     one_more is_entry (no_pair old vars) is_end (entry_elements old vars made bots actions)
-    (all_entries old made bots actions vars) c.args.tokens.now c.loop-pairs.found.items before here
-    c.loop-pairs.invariant.reads entry there next c.push.new.self.items c.in_ok-push.ensures.items in
+    (all_entries old made bots actions vars) c.args.tokens.now c.loop-of.found.items before here
+    c.loop-of.invariant.reads entry there next c.push.new.self.items c.in_ok-push.ensures.items in
     let one : suc before ≡ before + 1 = omega arith in
     let few : before < most_turns = c.in_ok-entry.ensures.room in
     record {
@@ -61,11 +61,11 @@ loop-pairs-preserved g c =
 pub returns : goal.returns
 returns g c =
     let old = g.E.Form.HAS_OLD in let made = g.E.Form.made in
-    let bots = c.args.bots in let actions = c.args.actions in let vars = c.args.vars in
-    let before = c.loop-pairs.before in let here = c.loop-pairs.tokens in
+    let bots = c.args.of.bots in let actions = c.args.of.actions in let vars = c.args.of.vars in
+    let before = c.loop-of.before in let here = c.loop-of.tokens in
     loop_is_over (IsEntryBy old made bots actions vars) (an_entry old made bots actions vars)
     one_more is_entry (no_pair old vars) is_end (entry_elements old vars made bots actions)
-    (all_entries old made bots actions vars) c.args.tokens.now c.loop-pairs.found.items before here
-    c.loop-pairs.invariant.reads here
+    (all_entries old made bots actions vars) c.args.tokens.now c.loop-of.found.items before here
+    c.loop-of.invariant.reads here
     (another_none is_entry (an_entry old made bots actions vars before) here
-    (sym c.is_next.ensures ∙ c.loop-pairs-test.false))
+    (sym c.is_next.ensures ∙ c.loop-of-test.false))
