@@ -6,13 +6,16 @@ use Rattle.outer_io.specs.declared.writing.Sink.{Ghosts as SinkOf}
 use Rattle.claim_rule.specs.declared.manner.ByJournal.{ByJournal}
 use Rattle.claim_rule.specs.declared.manner.ByTicket.{ByTicket}
 use Rattle.node_claims.specs.declared.turn.Turn.{Turn}
+use Rattle.shipped_programs.specs.declared.shipped.Shipped.{Shipped}
 use Rattle.commands.specs.declared.words.Command.{Command}
+use Rattle.commands.specs.declared.words.Command.TheVariants.{Show}
 use Rattle.commands.specs.declared.answer.Maker.{Maker}
 use Rattle.commands.specs.declared.answer.Maker.TheVariants as maker
 use Rattle.commands.specs.declared.status.Status.{Status}
 use Rattle.commands.specs.declared.status.Status.TheVariants as status
 use Rattle.commands.specs.Answers.{turn_maker}
-use Rattle.commands.specs.Commands.{IsTicketed, IsWorked, NeedsWorkers, maker_of, the_workers, the_tickets}
+use Rattle.commands.specs.Commands.{IsTicketed, IsWorked, NeedsWorkers, maker_of, no_maker, the_workers, the_tickets}
+use Rattle.commands.proofs.TurnMakers.{nobody_works}
 use Rattle.amoebot_run.specs.declared.ended.Ended.{Ended}
 use Rattle.amoebot_run.specs.declared.making.MadeTurns.{MadeTurns}
 use Rattle.amoebot_run.specs.declared.making.MadeTurns.TheVariants as turned
@@ -42,6 +45,10 @@ none_told c s report never = record {
   turns_there = no_turns c s report (λ done are. never done (inl are));
   tickets_there = no_tickets c s report (λ done are. never done (inr are));
 }
+
+-- so a call that shows a program has none
+pub show_none : (program : Shipped) (s : Status) (report : Option Report) → HasBoth (Some (Show program)) s report None None
+show_none program s report = none_told (Some (Show program)) s report (λ done needs. nobody_works no_maker refl needs)
 
 -- ---- calls that have some
 

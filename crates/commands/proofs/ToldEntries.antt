@@ -9,7 +9,8 @@ use Rattle.amoebot_state.specs.declared.verdict.Entry.{Entry}
 use Rattle.amoebot_state.specs.declared.verdict.Verdict.{Verdict}
 use Rattle.amoebot_state.specs.Configs.{Config}
 use Rattle.amoebot_state.specs.Zones.{Shown}
-use Rattle.amoebot_state.specs.Steps.{Run, plain_entry}
+use Rattle.amoebot_state.specs.Steps.{Run, Step, plain_entry}
+use Rattle.amoebot_state.proofs.Runs.{run_push}
 use Rattle.serial_model.specs.Forms.{InForm, IsForm}
 use Rattle.serial_model.specs.Replays.{IsNoStep, RunIn}
 use Rattle.round_meter.specs.Rounds.{IsRounded}
@@ -29,11 +30,19 @@ plain_alike {E} {form} is (e ∷ es) (d ∷ ds) same =
     let rest = plain_alike is es ds tail in
     (λ i. is.keeps e d head i ∷ rest i)
 
+-- a run of a list that is one more entry
+pub run_pushed : (f : Shown → Verdict) (old mid new : Config) (es ds : List Entry) (e : Entry) → ds ≡ es ++ e ∷ [] → Run f old es mid → Step f mid e new → Run f old ds new
+run_pushed f old mid new es ds e more run step = subst (λ (xs : List Entry). Run f old xs new) (sym more) (run_push f old mid new es e run step)
+
 module _ {E : Type 0} (form : Entry → E) (told : List E) where
   -- one more entry
   pub told_more : (es : List Entry) (e : Entry) (next : E) (place : ℕ) → place < length told → next ≡ get_or told place next → map form es ≡ take place told → form e ≡ next → map form (es ++ e ∷ []) ≡ take (place + 1) told
   told_more es e next place below is so_far same =
       map-append form es (e ∷ []) ∙ (λ i. so_far i ++ (same ∙ is) i ∷ []) ∙ sym (take_more told place next below)
+
+  -- the same of a list that is one more entry
+  pub told_pushed : (es ds : List Entry) (e : Entry) (next : E) (place : ℕ) → ds ≡ es ++ e ∷ [] → place < length told → next ≡ get_or told place next → map form es ≡ take place told → form e ≡ next → map form ds ≡ take (place + 1) told
+  told_pushed es ds e next place more below is so_far same = ap (map form) more ∙ told_more es e next place below is so_far same
 
   -- all of them
   pub told_all : (Holds : List Entry → Type 0) (place : ℕ) → place ≡ length told → InForm (map form) Holds (take place told) → InForm (map form) Holds told

@@ -1,7 +1,7 @@
 use Rattle.std.proofs.Common.{None, refl}
 use Rattle.commands.specs.Reads.{nothing}
 use Rattle.amoebot_run.proofs.Endings.{ending_of, without}
-use Rattle.amoebot_run.proofs.WorkingLemmas.{none_told, turns_of, without_turns}
+use Rattle.amoebot_run.proofs.WorkingLemmas.{show_none, turns_of, without_turns}
 use Rattle.amoebot_run.proofs.begin.end_show.Goals as goal
 
 pub returns-in_default-clause-ending : goal.returns-in_default-clause-ending
@@ -17,7 +17,7 @@ pub returns-clause-ending : goal.returns-clause-ending
 returns-clause-ending g c = ending_of nothing c.in-Ok.answer.status c.in-Ok.answer.report None None c.in-Ok.answer.text _ refl c.in-Ok.ensures c.end_with_answer.ensures
 
 pub returns-clause-turns : goal.returns-clause-turns
-returns-clause-turns g c = (turns_of _ c.in-Ok.answer.status c.in-Ok.answer.report None None c.in-Ok.answer.text _ (none_told _ c.in-Ok.answer.status c.in-Ok.answer.report (λ done needs. absurd needs)) c.end_with_answer.ensures).turns_there
+returns-clause-turns g c = (turns_of _ c.in-Ok.answer.status c.in-Ok.answer.report None None c.in-Ok.answer.text _ (show_none _ c.in-Ok.answer.status c.in-Ok.answer.report) c.end_with_answer.ensures).turns_there
 
 pub returns-clause-tickets : goal.returns-clause-tickets
-returns-clause-tickets g c = (turns_of _ c.in-Ok.answer.status c.in-Ok.answer.report None None c.in-Ok.answer.text _ (none_told _ c.in-Ok.answer.status c.in-Ok.answer.report (λ done needs. absurd needs)) c.end_with_answer.ensures).tickets_there
+returns-clause-tickets g c = (turns_of _ c.in-Ok.answer.status c.in-Ok.answer.report None None c.in-Ok.answer.text _ (show_none _ c.in-Ok.answer.status c.in-Ok.answer.report) c.end_with_answer.ensures).tickets_there

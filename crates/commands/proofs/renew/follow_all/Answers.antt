@@ -1,11 +1,9 @@
-use Rattle.std.proofs.Common.{◌≡◌, ◌<◌, length, map, take, arith, ap, sym, ◌∙◌, subst}
+use Rattle.std.proofs.Common.{◌≡◌, ◌<◌, length, take, arith, ap, sym, ◌∙◌}
 use Rattle.std.proofs.lemmas.Bool.{false≢true}
 use Rattle.std.proofs.Math.Seq.{take-length}
-use Rattle.amoebot_state.specs.Steps.{Run}
-use Rattle.amoebot_state.proofs.Runs.{run_push}
 use Rattle.serial_model.specs.Replays.{RunIn}
 use Rattle.commands.specs.Journals.{at_end}
-use Rattle.commands.proofs.ToldEntries.{told_more, stops}
+use Rattle.commands.proofs.ToldEntries.{run_pushed, stops, told_pushed}
 use Rattle.commands.proofs.renew.follow_all.Goals as goal
 
 pub returns-in-None : goal.returns-in-None
@@ -16,13 +14,10 @@ returns-in-None g c =
 
 pub loop-place-preserved : goal.loop-place-preserved
 loop-place-preserved g c =
-    let f = g.D.Decider.verdict c.args.decider.now in
     let below : c.loop-place.place < length c.args.entries.now = omega arith in
-    let es = c.loop-place.followed.items in
-    let items = c.in_ok-push-in-Some.ensures.items in
     record {
-      tells = ap (map g.E.EntryForm.form) items ∙ told_more g.E.EntryForm.form c.args.entries.now es c.in-Some.entry c.index-entries-place.result c.loop-place.place below c.index-entries-place.is c.loop-place.invariant.tells c.in-Some.ensures.told;
-      run = subst (λ ds. Run f c.args.start ds c.follow_in.new.self) (sym items) (run_push f c.args.start c.loop-place.serial c.follow_in.new.self es c.in-Some.entry c.loop-place.invariant.run c.in-Some.ensures.step);
+      tells = told_pushed g.E.EntryForm.form c.args.entries.now c.loop-place.followed.items _ c.in-Some.entry c.index-entries-place.result c.loop-place.place c.in_ok-push-in-Some.ensures.items below c.index-entries-place.is c.loop-place.invariant.tells c.in-Some.ensures.told;
+      run = run_pushed (g.D.Decider.verdict c.args.decider.now) c.args.start c.loop-place.serial c.follow_in.new.self c.loop-place.followed.items _ c.in-Some.entry c.in_ok-push-in-Some.ensures.items c.loop-place.invariant.run c.in-Some.ensures.step;
       size = c.follow_in.ensures.size ∙ c.loop-place.invariant.size;
     }
 
