@@ -8,6 +8,7 @@ pub mod NodeClaims
 pub mod NodeReleases
 pub mod Settles
 pub mod Winning
+pub mod Beside
 pub mod Claims
 pub mod Releases
 pub mod Shows

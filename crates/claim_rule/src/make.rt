@@ -1,5 +1,5 @@
 //! How a field begins.
-ghost use Rattle.std.specs.Prelude.{◌≡◌, ◌≤◌, [], map, length, IfOk, IsSome};
+ghost use Rattle.std.specs.Prelude.{◌≡◌, ◌≤◌, [], map, length, IfOk, IsSome, Ok};
 ghost use Rattle.std.specs.List.{All};
 ghost use Rattle.amoebot_state.specs.Configs.{bot_at};
 ghost use Rattle.claim_rule.specs.Manners.{by_journal, by_ticket};
@@ -40,10 +40,10 @@ impl<'d, D: Decider> Field<'d, D> {
         ensures all { IfOk result (λ made. All (λ seat. IsSome seat) made.1.seats) }
     {
         let words = words_at_first(alloc, &world)?;
-        let slots = first_slots(alloc, &world, lists)?;
+        let (words, slots) = beside(words, first_slots(alloc, &world, lists))?;
         let (field, rest) = Field::lay_out(alloc, decider, world, lists, words, slots)?;
-        let seats = deal_all(alloc, &field, rest, lists.callers())?;
-        Ok((field, seats))
+        let seats = deal_all(alloc, &field, rest, lists.callers());
+        beside(field, seats)
     }
 }
 
@@ -63,10 +63,21 @@ impl<'d, D: Decider> Field<'d, D, ByTicket> {
         ensures all { IfOk result (λ made. All (λ seat. IsSome seat) made.1.seats) }
     {
         let words = ticket_words(alloc, &world)?;
-        let slots = ticket_slots(alloc, &world)?;
+        let (words, slots) = beside(words, ticket_slots(alloc, &world))?;
         let (field, rest) = Field::lay_out(alloc, decider, world, lists, words, slots)?;
-        let seats = deal_all(alloc, &field, rest, lists.callers())?;
-        Ok((field, seats))
+        let seats = deal_all(alloc, &field, rest, lists.callers());
+        beside(field, seats)
+    }
+}
+
+/// A part, and the next one where that was made.
+/// A caller that puts its part in here owns none at its `?`, which leaves it less to prove.
+fn beside<A: Drop, B: Drop>(before: A, next: Result<B, NoMemory>) -> Result<(A, B), NoMemory>
+    ensures { IfOk result (λ r. (r.0 ≡ before) × (next ≡ Ok r.1)) }
+{
+    match next {
+        Ok(next) => Ok((before, next)),
+        Err(error) => Err(error),
     }
 }
 
