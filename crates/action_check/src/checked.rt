@@ -1,8 +1,7 @@
 //! Programs that keep the rules on names and ranges.
 
 ghost use Rattle.std.specs.Prelude.{◌≡◌, length, IfOk, IfErr};
-ghost use Rattle.action_check.specs.Faults.{faults, AreRulesKept};
-ghost use Rattle.action_check.specs.Told.{TellsFirst};
+ghost use Rattle.action_check.specs.{Faults.{faults, AreRulesKept}, Told.{TellsFirst}};
 
 use crate::declaration::{check_actions, check_vars};
 use action_tree::{NameText, Program};
@@ -20,17 +19,15 @@ pub struct Checked {
 
 impl Model for Checked {
     ghost use Rattle.std.specs.Prelude.{◌≡◌, true};
-    ghost use Rattle.action_tree.specs.Trees.{Program as Tree};
     ghost use Rattle.action_tree.specs.Stored.{program_code};
+    ghost use Rattle.action_tree.specs.Trees.Program as Tree;
 
     ghost Value = { Tree };
 
     ghost coded = { program_code };
 
-    ghost use Rattle.action_tree.specs.Writable.{is_writable};
-    ghost use Rattle.action_check.specs.Faults.{AreRulesKept};
-    ghost use Rattle.action_tree.specs.Scopes.{names_of_vars};
-    ghost use Rattle.action_check.specs.Told.{texts};
+    ghost use Rattle.action_tree.specs.{Writable.{is_writable}, Scopes.{names_of_vars}};
+    ghost use Rattle.action_check.specs.{Faults.{AreRulesKept}, Told.{texts}};
 
     ghost view = { λ c. c.program };
 
@@ -52,8 +49,7 @@ pub fn check(alloc: Global, program: Program) -> Result<Checked, ReadRefusal>
 impl Checked {
     ghost use Rattle.std.specs.Prelude.{true};
     ghost use Rattle.action_tree.specs.Writable.{is_writable};
-    ghost use Rattle.action_check.specs.Rules.{ProgramKept};
-    ghost use Rattle.action_check.specs.Maxes.{maxes_of};
+    ghost use Rattle.action_check.specs.{Rules.{ProgramKept}, Maxes.{maxes_of}};
 
     /// The program.
     pub fn program(&self) -> &Program

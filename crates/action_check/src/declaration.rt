@@ -1,12 +1,10 @@
 //! The rules on the declarations of a program.
 
-ghost use Rattle.std.specs.Prelude.{◌≡◌, [], ◌∷◌, ◌++◌, true, map, OnOk, IfOk, IfErr, Ok};
-ghost use Rattle.std.specs.List.{list_all};
-ghost use Rattle.action_tree.specs.Scopes.{names_of_vars};
-ghost use Rattle.action_tree.specs.Views.{name_of, var_of, action_of};
-ghost use Rattle.action_tree.specs.Writable.{is_action};
-ghost use Rattle.action_check.specs.Faults as spec;
+ghost use Rattle.std.specs.{Prelude.{◌≡◌, [], ◌∷◌, ◌++◌, true, map, OnOk, IfOk, IfErr, Ok}, List.{list_all}};
+ghost use Rattle.action_tree.specs.Scopes.{names_of_vars, scope_of_names};
+ghost use Rattle.action_tree.specs.{Views.{name_of, var_of, action_of}, Writable.{is_action}};
 ghost use Rattle.action_check.specs.Told.{first_of, texts, TellsFirst};
+ghost use Rattle.action_check.specs.Faults as spec;
 
 use crate::scope::{Scope, refused, within};
 use crate::statement::check_action;
@@ -68,12 +66,10 @@ pub fn check_actions(
 ) -> Result<(), ReadRefusal>
     requires { list_all is_action (map action_of actions.now) ≡ true }
     ensures fine { OnOk result (
-        first_of (spec.actions_faults (record { vars = texts vars.now.keys; bound = [] })
-        [] (map action_of actions.now))
+        first_of (spec.actions_faults (scope_of_names (texts vars.now.keys)) [] (map action_of actions.now))
         ≡ Ok tt) }
     ensures wrong { IfErr result (TellsFirst (
-        spec.actions_faults (record { vars = texts vars.now.keys; bound = [] })
-        [] (map action_of actions.now))) }
+        spec.actions_faults (scope_of_names (texts vars.now.keys)) [] (map action_of actions.now))) }
 {
     let mut names = IndexSet::new(alloc);
     declare_actions(&mut names, actions, vars)
@@ -87,12 +83,12 @@ fn declare_actions(
 ) -> Result<(), ReadRefusal>
     requires { list_all is_action (map action_of actions.now) ≡ true }
     ensures fine { OnOk result (
-        first_of (spec.actions_faults (record { vars = texts vars.now.keys; bound = [] })
-        (texts names.old.keys) (map action_of actions.now))
+        first_of (spec.actions_faults (scope_of_names (texts vars.now.keys)) (texts names.old.keys)
+        (map action_of actions.now))
         ≡ Ok tt) }
     ensures wrong { IfErr result (TellsFirst (
-        spec.actions_faults (record { vars = texts vars.now.keys; bound = [] })
-        (texts names.old.keys) (map action_of actions.now))) }
+        spec.actions_faults (scope_of_names (texts vars.now.keys)) (texts names.old.keys)
+        (map action_of actions.now))) }
 {
     for action in actions {
         declare(names, &action.name)?;

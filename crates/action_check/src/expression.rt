@@ -1,11 +1,11 @@
 //! The rules on guards, sums and ports.
 
 ghost use Rattle.std.specs.Prelude.{◌≡◌, ◌++◌, suc};
-ghost use Rattle.action_tree.specs.Views as view;
 ghost use Rattle.action_tree.specs.Writable.{guard_names, guards_names, sum_names, term_names, port_names};
 ghost use Rattle.action_tree.specs.Scopes.{HasRoom, scope_with};
-ghost use Rattle.action_check.specs.Faults as spec;
+ghost use Rattle.action_tree.specs.Views as view;
 ghost use Rattle.action_check.specs.Told.{first_of, known_scope};
+ghost use Rattle.action_check.specs.Faults as spec;
 
 use crate::scope::{Scope, within};
 use action_tree::{DirTerm, Guard, PortExpr, Sum, Term, Word};

@@ -1,7 +1,8 @@
 //! What holds of the definitions. The functions do nothing: their clauses are the laws.
 
 ghost use Rattle.action_check.specs.Laws.{FaultlessIsKept, KeptIsFaultless, RowsAreDerived, SamplesKeepRules};
-ghost use Rattle.action_check.specs.Laws.{FaultsIgnoreLines, RulesIgnoreLines, FaultsFollowText, FaultsOfTextNeverFall};
+ghost use Rattle.action_check.specs.Laws.{FaultsIgnoreLines, RulesIgnoreLines, FaultsFollowText};
+ghost use Rattle.action_check.specs.Laws.{FaultsOfTextNeverFall};
 
 /// The list of faults is empty exactly where each part of the program
 /// is what an evaluation relies on.

@@ -4,8 +4,8 @@
 ghost use Rattle.std.specs.Prelude.{◌≡◌, []};
 ghost use Rattle.action_tree.specs.Views.{name_of, literal_of};
 ghost use Rattle.action_tree.specs.Scopes.{HasRoom, is_among, scope_with as spec_bind};
-ghost use Rattle.action_check.specs.Faults as spec;
 ghost use Rattle.action_check.specs.Told.{first_of, known_scope, texts};
+ghost use Rattle.action_check.specs.Faults as spec;
 
 use action_tree::{Lit, MOST_NAMES, NameText, Word};
 use arrayvec::ArrayVec;

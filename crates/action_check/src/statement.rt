@@ -1,11 +1,11 @@
 //! The rules on statements, movements and actions.
 
 ghost use Rattle.std.specs.Prelude.{◌≡◌, Ok, Err, IfOk, IfErr};
-ghost use Rattle.action_tree.specs.Views as view;
 ghost use Rattle.action_tree.specs.Writable.{with_let, stmt_names, stmts_names, move_names, action_names};
 ghost use Rattle.action_tree.specs.Scopes.{HasRoom, scope_after, scope_after_all};
-ghost use Rattle.action_check.specs.Faults as spec;
+ghost use Rattle.action_tree.specs.Views as view;
 ghost use Rattle.action_check.specs.Told.{first_of, known_scope};
+ghost use Rattle.action_check.specs.Faults as spec;
 
 use crate::expression::{check_guard, check_inside, check_port, check_sum};
 use crate::scope::Scope;

@@ -2,17 +2,15 @@
 
 ghost use Rattle.std.specs.Prelude.{◌≡◌, true, IfOk, IfErr, Ok, Err};
 ghost use Rattle.action_tree.specs.Places.{is_at_place, sum_placed, stmt_placed, stmts_placed, move_placed};
+ghost use Rattle.action_tree.specs.{Writable.{is_sum, is_stmt, are_stmts, is_move}, Scopes.{scope_after_all}};
 ghost use Rattle.action_tree.specs.Views as view;
-ghost use Rattle.action_tree.specs.Writable.{is_sum, is_stmt, are_stmts, is_move};
 ghost use Rattle.action_check.specs.Rules.{IsVariable, SumKept, StmtKept, StmtsKept, MoveKept};
-ghost use Rattle.action_tree.specs.Scopes.{scope_after_all};
-ghost use Rattle.model_ops.specs.Reaches.{Reaches, move};
-ghost use Rattle.model_ops.specs.Sites.{done};
+ghost use Rattle.model_ops.specs.{Reaches.{Reaches, move}, Sites.{done}};
 ghost use Rattle.model_ops.specs.WorkingCopies.{opened, own_id, copy_after};
 ghost use Rattle.amoebot_state.specs.Zones.{IsShown, shown_alone};
-ghost use Rattle.action_meaning.specs.Values as spec;
 ghost use Rattle.action_meaning.specs.Effects.{stmt_effect, stmts_effect, for_ports};
 ghost use Rattle.action_meaning.specs.Verdicts.{move_value as spec_move_value, action_effect};
+ghost use Rattle.action_meaning.specs.Values as spec;
 ghost use Rattle.action_eval.specs.Known.{known, scope_of, sight_of};
 ghost use Rattle.action_eval.specs.Running.{HasRun, moment_of, put_reached, turn_effect};
 ghost use Rattle.action_eval.specs.UnderNames.{MayAsk, MayRunUnder};

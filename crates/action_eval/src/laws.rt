@@ -1,6 +1,7 @@
 //! What holds of each `Runner`. The functions do nothing: their clauses are the laws.
 
-ghost use Rattle.action_meaning.specs.Laws.{DecidesVerdict, GuardedStepsStayConnected, GuardedRunsStayConnected};
+ghost use Rattle.action_meaning.specs.Laws.{DecidesVerdict, GuardedStepsStayConnected};
+ghost use Rattle.action_meaning.specs.Laws.{GuardedRunsStayConnected};
 
 use crate::runner::Runner;
 use amoebot_state::Decider;

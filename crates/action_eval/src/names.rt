@@ -27,14 +27,12 @@ pub struct Names<'p> {
 
 impl<'p> Names<'p> {
     ghost use Rattle.std.specs.Prelude.{◌<◌, [], true, map};
-    ghost use Rattle.action_tree.specs.Views.{name_of, var_of};
-    ghost use Rattle.action_tree.specs.Scopes.{names_of_vars};
-    ghost use Rattle.action_tree.specs.Places.{is_at_place};
+    ghost use Rattle.action_tree.specs.{Views.{name_of, var_of}, Scopes.{names_of_vars}};
+    ghost use Rattle.action_tree.specs.{Places.{is_at_place}, declared.word.Word.{Word}};
     ghost use Rattle.action_check.specs.Rules.{IsInForce, IsVariable};
-    ghost use Rattle.action_meaning.specs.Names.{Names as Known, var_number, port_named, bind as spec_bind};
-    ghost use Rattle.action_tree.specs.declared.word.Word.{Word};
-    ghost use Rattle.action_eval.specs.Known.{known, scope_of};
-    ghost use Rattle.action_eval.specs.UnderNames.{IsUnder};
+    ghost use Rattle.action_meaning.specs.Names.{var_number, port_named, bind as spec_bind};
+    ghost use Rattle.action_meaning.specs.Names.Names as Known;
+    ghost use Rattle.action_eval.specs.{Known.{known, scope_of}, UnderNames.{IsUnder}};
 
     /// The names at the start of an action: no name is in force.
     pub fn new(vars: &'p [Var]) -> Names<'p>

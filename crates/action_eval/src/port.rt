@@ -1,8 +1,7 @@
 //! The ports of an amoebot, and its inner direction.
 
 ghost use Rattle.std.specs.Prelude.{◌≡◌, ◌<◌, ◌≤◌, IfOk, filter, length, unwrap_or};
-ghost use Rattle.amoebot_state.specs.Ports.{is_port};
-ghost use Rattle.amoebot_state.specs.Refusals.{IsBotInRange};
+ghost use Rattle.amoebot_state.specs.{Ports.{is_port}, Refusals.{IsBotInRange}};
 ghost use Rattle.action_meaning.specs.Values as spec;
 ghost use Rattle.action_eval.specs.Known.{sight_of, is_in_set};
 

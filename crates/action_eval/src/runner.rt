@@ -1,19 +1,15 @@
 //! The interpreter: what a checked program decides on what an amoebot is shown.
 
-ghost use Rattle.std.specs.Prelude.{◌≡◌, ◌≤◌, true, length, map};
-ghost use Rattle.std.specs.List.{All, list_all};
-ghost use Rattle.amoebot_state.specs.declared.verdict.Verdict.TheVariants as verdict;
+ghost use Rattle.std.specs.{Prelude.{◌≡◌, ◌≤◌, true, length, map}, List.{All, list_all}};
 ghost use Rattle.amoebot_state.specs.Zones.{IsShown, shown_alone};
-ghost use Rattle.model_ops.specs.Reaches.{Reaches};
-ghost use Rattle.model_ops.specs.WorkingCopies.{opened, own_id, changes};
-ghost use Rattle.action_tree.specs.Limits.{most_actions};
-ghost use Rattle.action_tree.specs.Places.{action_placed, actions_placed};
-ghost use Rattle.action_tree.specs.Views as view;
+ghost use Rattle.amoebot_state.specs.declared.verdict.Verdict.TheVariants as verdict;
+ghost use Rattle.model_ops.specs.{Reaches.{Reaches}, WorkingCopies.{opened, own_id, changes}};
+ghost use Rattle.action_tree.specs.{Limits.{most_actions}, Places.{action_placed, actions_placed}};
 ghost use Rattle.action_tree.specs.Writable.{is_action};
+ghost use Rattle.action_tree.specs.Views as view;
 ghost use Rattle.action_check.specs.Rules.{ActionKept};
 ghost use Rattle.action_meaning.specs.Verdicts.{actions_verdict, action_effect, verdict_of_result};
-ghost use Rattle.action_eval.specs.Known.{known, scope_of};
-ghost use Rattle.action_eval.specs.Running.{HasDecided, moment_of};
+ghost use Rattle.action_eval.specs.{Known.{known, scope_of}, Running.{HasDecided, moment_of}};
 
 use crate::effect::run_action;
 use crate::names::Names;
@@ -32,8 +28,8 @@ pub struct Runner {
 }
 
 impl Model for Runner {
-    ghost use Rattle.action_tree.specs.Trees.{Program as Tree};
     ghost use Rattle.action_tree.specs.Stored.{program_code};
+    ghost use Rattle.action_tree.specs.Trees.Program as Tree;
 
     ghost Value = { Tree };
 

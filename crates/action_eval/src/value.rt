@@ -4,10 +4,11 @@
 //! makes no room for what they need.
 
 ghost use Rattle.std.specs.Prelude.{◌≡◌, ◌<◌, ◌≤ℤ◌, pos, true, IfOk};
-ghost use Rattle.action_tree.specs.Places.{dirterm_placed, guard_placed, guards_placed, port_placed, term_placed, sum_placed};
+ghost use Rattle.action_tree.specs.Places.{dirterm_placed, guard_placed, guards_placed, port_placed};
+ghost use Rattle.action_tree.specs.Places.{term_placed, sum_placed};
+ghost use Rattle.action_tree.specs.Writable.{is_guard, are_guards, is_sum, is_term, is_port as is_port_expr};
 ghost use Rattle.action_tree.specs.Trees as tree;
 ghost use Rattle.action_tree.specs.Views as view;
-ghost use Rattle.action_tree.specs.Writable.{is_guard, are_guards, is_sum, is_term, is_port as is_port_expr};
 ghost use Rattle.action_check.specs.Limits.{most_literal};
 ghost use Rattle.action_check.specs.Rules.{GuardKept, GuardsKept, SumKept, TermKept, PortKept, DirTermKept};
 ghost use Rattle.action_meaning.specs.Choices.{any_of_ports, all_of_ports, first_of_ports, count_of_ports};

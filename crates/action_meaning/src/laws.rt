@@ -1,8 +1,9 @@
 //! What holds of verdicts. The functions do nothing: their clauses are the laws.
 
-ghost use Rattle.action_meaning.specs.Laws.{VerdictIsShown, ProgramsDecideByActs, GuardedProgramsDecideGuarded};
-ghost use Rattle.action_meaning.specs.Laws.{ProgramStepsStayConnected, ProgramRunsStayConnected, ValuesAreComputed};
-ghost use Rattle.action_meaning.specs.Laws.{BlockedIsShown, VerdictIgnoresLines};
+ghost use Rattle.action_meaning.specs.Laws.{VerdictIsShown, ProgramsDecideByActs};
+ghost use Rattle.action_meaning.specs.Laws.{GuardedProgramsDecideGuarded, ProgramStepsStayConnected};
+ghost use Rattle.action_meaning.specs.Laws.{ProgramRunsStayConnected, ValuesAreComputed, BlockedIsShown};
+ghost use Rattle.action_meaning.specs.Laws.{VerdictIgnoresLines};
 
 /// The verdict on what a valid configuration shows is the verdict on that configuration,
 /// ids without an amoebot allowed.

@@ -4,13 +4,11 @@
 //! Each function knows how many more levels may be opened, and how many more names may be bound.
 
 ghost use Rattle.std.specs.Prelude.{◌<◌, IfOk, IfSome, option_map};
-ghost use Rattle.text_tokens.specs.Steps.{Gives, another};
-ghost use Rattle.text_tokens.specs.Reading.{behind_sign};
+ghost use Rattle.text_tokens.specs.{Steps.{Gives, another}, Reading.{behind_sign}};
 ghost use Rattle.action_tree.specs.Views.{guard_of, sum_of, part_of, term_of, port_of};
-ghost use Rattle.action_tree.specs.Roles.{is_a, is_plus_or_minus};
+ghost use Rattle.action_tree.specs.{Roles.{is_a, is_plus_or_minus}, ExpressionReaders.{inside}};
 ghost use Rattle.action_tree.specs.declared.role.Role.TheVariants as role;
 ghost use Rattle.action_tree.specs.ExpressionReaders as spec;
-ghost use Rattle.action_tree.specs.ExpressionReaders.{inside};
 ghost use Rattle.action_parser.specs.Selections.{selection_of};
 
 use crate::full::{begins_sum, full_guard, full_sum};

@@ -1,8 +1,7 @@
 //! What one element too many is refused for.
 
 ghost use Rattle.std.specs.Prelude.{◌≡◌};
-ghost use Rattle.text_tokens.specs.Reading.{full_at};
-ghost use Rattle.text_tokens.specs.Steps.{IsRefusal};
+ghost use Rattle.text_tokens.specs.{Reading.{full_at}, Steps.{IsRefusal}};
 ghost use Rattle.action_tree.specs.Roles as roles;
 ghost use Rattle.action_tree.specs.ExpressionReaders as spec;
 ghost use Rattle.action_tree.specs.StatementReaders as statements;

@@ -5,10 +5,8 @@ ghost use Rattle.text_tokens.specs.Steps.{Gives, TellsOf, ReadsOf, another};
 ghost use Rattle.text_tokens.specs.Reading.{no_limit, limited, at_most};
 ghost use Rattle.amoebot_state.specs.Limits.{most_vars};
 ghost use Rattle.action_tree.specs.Limits.{most_levels, most_names, most_actions};
-ghost use Rattle.action_tree.specs.Views.{var_of, action_of};
-ghost use Rattle.action_tree.specs.Roles.{is_a};
+ghost use Rattle.action_tree.specs.{Views.{var_of, action_of}, Roles.{is_a}, Programs.{IsProgram}};
 ghost use Rattle.action_tree.specs.declared.role.Role.TheVariants as role;
-ghost use Rattle.action_tree.specs.Programs.{IsProgram};
 ghost use Rattle.action_tree.specs.ProgramReaders as spec;
 ghost use Rattle.action_parser.specs.PartsOf.{parts_of};
 

@@ -3,12 +3,11 @@
 ghost use Rattle.std.specs.Prelude.{◌≡◌, ◌<◌, option_map, IfOk, OnOk};
 ghost use Rattle.text_tokens.specs.Cursor.{Spells, next_passes, refusal_at};
 ghost use Rattle.text_tokens.specs.declared.refusal.RefusalKind.TheVariants.{Unexpected};
-ghost use Rattle.text_tokens.specs.declared.refusal.ReadRefusal.TheVariants.{Refused};
-ghost use Rattle.text_tokens.specs.Reading as reading;
-ghost use Rattle.text_tokens.specs.Reading.{one};
+ghost use Rattle.text_tokens.specs.{declared.refusal.ReadRefusal.TheVariants.{Refused}, Reading.{one}};
 ghost use Rattle.text_tokens.specs.Steps.{Gives, lexeme_of};
-ghost use Rattle.action_tree.specs.Roles as roles;
+ghost use Rattle.text_tokens.specs.Reading as reading;
 ghost use Rattle.action_tree.specs.Roles.{is_a};
+ghost use Rattle.action_tree.specs.Roles as roles;
 
 use action_tree::{Role, role_of};
 use text_tokens::{ReadRefusal, RefusalKind, Token, Tokens, refused};

@@ -1,9 +1,8 @@
 //! A name for the ports of a set, with a guard, and what is made of it.
 
 ghost use Rattle.std.specs.Prelude.{◌≡◌};
+ghost use Rattle.action_tree.specs.{Views.{guard_of}, Roles.{quantifier_by}};
 ghost use Rattle.action_tree.specs.Trees as tree;
-ghost use Rattle.action_tree.specs.Views.{guard_of};
-ghost use Rattle.action_tree.specs.Roles.{quantifier_by};
 ghost use Rattle.action_parser.specs.Selections.{selection_of};
 
 use action_tree::{Guard, PortSet, Word};

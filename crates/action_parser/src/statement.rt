@@ -1,17 +1,15 @@
 //! Statements, and the movement behind them.
 
 ghost use Rattle.std.specs.Prelude.{◌≡◌, ◌<◌, IfOk, IfSome, option_map};
-ghost use Rattle.text_tokens.specs.Steps.{Gives, another};
-ghost use Rattle.text_tokens.specs.Reading.{behind_sign};
-ghost use Rattle.action_tree.specs.Trees as tree;
+ghost use Rattle.text_tokens.specs.{Steps.{Gives, another}, Reading.{behind_sign}};
 ghost use Rattle.action_tree.specs.Limits.{most_further};
 ghost use Rattle.action_tree.specs.Productions.{names_left_after, names_left_after_all};
-ghost use Rattle.action_tree.specs.Views.{guard_of, stmt_of, stmts_of, port_of, move_of};
-ghost use Rattle.action_tree.specs.Roles.{is_a};
-ghost use Rattle.action_tree.specs.declared.role.Role.TheVariants as role;
-ghost use Rattle.action_tree.specs.StatementReaders as spec;
+ghost use Rattle.action_tree.specs.{Views.{guard_of, stmt_of, stmts_of, port_of, move_of}, Roles.{is_a}};
 ghost use Rattle.action_tree.specs.StatementReaders.{stmts_inside};
+ghost use Rattle.action_tree.specs.Trees as tree;
+ghost use Rattle.action_tree.specs.StatementReaders as spec;
 ghost use Rattle.action_tree.specs.ProgramReaders as programs;
+ghost use Rattle.action_tree.specs.declared.role.Role.TheVariants as role;
 ghost use Rattle.action_parser.specs.Selections.{selection_of};
 
 use crate::expression::{read_guard, read_port, read_selection, read_sum};

@@ -1,13 +1,12 @@
 //! Names, numbers, and words of which there are several of one role.
 
 ghost use Rattle.std.specs.Prelude.{◌≡◌, ◌<◌, OnOk};
-ghost use Rattle.text_tokens.specs.Reading.{one};
-ghost use Rattle.text_tokens.specs.Steps.{Gives};
+ghost use Rattle.text_tokens.specs.{Reading.{one}, Steps.{Gives}, Cursor.{next_passes}};
+ghost use Rattle.action_tree.specs.Views.{name_of, literal_of, dirterm_of, guard_of, port_of, move_of};
+ghost use Rattle.action_tree.specs.Views.{term_of};
+ghost use Rattle.action_tree.specs.Roles.{is_a, is_test, is_plus_or_minus, switch_by, end_of_word, atom_by};
+ghost use Rattle.action_tree.specs.Roles.{test_by, side_by, port_move_by, cmp_by};
 ghost use Rattle.action_tree.specs.Trees as tree;
-ghost use Rattle.action_tree.specs.Views.{name_of, literal_of, dirterm_of, guard_of, port_of, move_of, term_of};
-ghost use Rattle.text_tokens.specs.Cursor.{next_passes};
-ghost use Rattle.action_tree.specs.Roles.{is_a, is_test, is_plus_or_minus, switch_by, end_of_word, atom_by, test_by};
-ghost use Rattle.action_tree.specs.Roles.{side_by, port_move_by, cmp_by};
 ghost use Rattle.action_tree.specs.ExpressionReaders as spec;
 ghost use Rattle.action_parser.specs.Readings as reading;
 

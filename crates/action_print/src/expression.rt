@@ -4,8 +4,8 @@ ghost use Rattle.std.specs.Prelude.{◌≡◌, ◌++◌, codes, OnOk};
 ghost use Rattle.text_tokens.specs.Lines.{spaced};
 ghost use Rattle.action_tree.specs.Views.{guard_of, guards_of, name_of, port_of, sum_of, term_of, terms_of};
 ghost use Rattle.action_tree.specs.Writable as writable;
-ghost use Rattle.action_print.specs.Canon.{selection_words, conjs, guard_words, joined, parens_unless, port_words};
-ghost use Rattle.action_print.specs.Canon.{sum_words, term_words, units};
+ghost use Rattle.action_print.specs.Canon.{selection_words, conjs, guard_words, joined, parens_unless};
+ghost use Rattle.action_print.specs.Canon.{port_words, sum_words, term_words, units};
 
 use crate::token::{cmp_sign, put_between, put_dirterm, put_name, put_number, put_sign, set_word};
 use action_tree::{Guard, Part, PortExpr, PortSet, Sum, Term, Word};

@@ -1,11 +1,11 @@
 //! Variables, actions and whole programs, line by line.
 
-ghost use Rattle.std.specs.Prelude.{◌≡◌, ◌∷◌, ◌++◌, [], codes, map, IfOk, OnOk};
-ghost use Rattle.std.specs.List.{flat_map};
+ghost use Rattle.std.specs.{Prelude.{◌≡◌, ◌∷◌, ◌++◌, [], codes, map, IfOk, OnOk}, List.{flat_map}};
 ghost use Rattle.text_tokens.specs.Lines.{line_text, lines_text};
 ghost use Rattle.action_tree.specs.Views.{action_of, guard_of, move_of, name_of, stmts_of, var_of};
 ghost use Rattle.action_print.specs.ReadsBack.{ReadsBack};
-ghost use Rattle.action_print.specs.Canon.{action_lines, canon, do_lines, guard_line, guard_words, move_words, var_line};
+ghost use Rattle.action_print.specs.Canon.{action_lines, canon, do_lines, guard_line, guard_words};
+ghost use Rattle.action_print.specs.Canon.{move_words, var_line};
 
 use crate::expression::put_guard;
 use crate::statement::{put_move, put_stmts};

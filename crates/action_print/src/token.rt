@@ -3,9 +3,8 @@
 ghost use Rattle.std.specs.Prelude.{◌≡◌, ◌∷◌, ◌++◌, OnOk};
 ghost use Rattle.text_tokens.specs.Lines.{spaced};
 ghost use Rattle.action_tree.specs.Views.{dirterm_of, literal_of, name_of};
+ghost use Rattle.action_print.specs.{Canon.{dirterm_word, literal_word}, Rows.{between, sign_words}};
 ghost use Rattle.action_print.specs.Canon as canon;
-ghost use Rattle.action_print.specs.Canon.{dirterm_word, literal_word};
-ghost use Rattle.action_print.specs.Rows.{between, sign_words};
 
 use action_tree::{Cmp, DirTerm, Lit, PortSet, Word};
 use std::alloc::AllocError;

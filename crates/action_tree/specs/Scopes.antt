@@ -39,3 +39,7 @@ names_of_vars vs = map (λ v. v.name.text) vs
 
 abbrev pub at_start : Program → Scope
 at_start p = record { vars = names_of_vars p.vars; bound = [] }
+
+-- variables with these names, and no bound name
+abbrev pub scope_of_names : List (List ℕ) → Scope
+scope_of_names names = record { vars = names; bound = [] }

@@ -1,10 +1,10 @@
 //! What holds of the grammar of programs. The functions do nothing: their clauses are the laws.
 
 ghost use Rattle.text_tokens.specs.Lawful.{Exact, IsDecided};
-ghost use Rattle.action_tree.specs.Programs.{IsProgram};
-ghost use Rattle.action_tree.specs.ProgramReaders.{a_program};
+ghost use Rattle.action_tree.specs.{Programs.{IsProgram}, ProgramReaders.{a_program}};
 ghost use Rattle.action_tree.specs.GrammarLaws.{WordsAreReserved, NamesAreNotReserved, ExpressionsAreDecided};
-ghost use Rattle.action_tree.specs.GrammarLaws.{StatementsAreDecided, TextsGiveWritable, BytesGiveWritable, LinesFollowText};
+ghost use Rattle.action_tree.specs.GrammarLaws.{StatementsAreDecided, TextsGiveWritable, BytesGiveWritable};
+ghost use Rattle.action_tree.specs.GrammarLaws.{LinesFollowText};
 
 /// Of any tokens the grammar says one thing: they are read as one program, or have one first fault.
 /// So does the grammar of expressions, and that of statements.

@@ -1,13 +1,13 @@
 //! The place of each name of the actions of a program.
 
-ghost use Rattle.std.specs.Prelude.{◌≡◌, ◌≤◌, [], true, map, length};
-ghost use Rattle.std.specs.List.{list_all};
+ghost use Rattle.std.specs.{Prelude.{◌≡◌, ◌≤◌, [], true, map, length}, List.{list_all}};
 ghost use Rattle.amoebot_state.specs.Limits.{most_vars};
-ghost use Rattle.action_tree.specs.Views as view;
-ghost use Rattle.action_tree.specs.Places as spec;
 ghost use Rattle.action_tree.specs.PlacedScope.{placed_scope};
 ghost use Rattle.action_tree.specs.Scopes.{HasRoom, names_of_vars, scope_after, scope_after_all};
-ghost use Rattle.action_tree.specs.Writable.{with_let, stmt_names, stmts_names, move_names, action_names, is_action};
+ghost use Rattle.action_tree.specs.Writable.{with_let, stmt_names, stmts_names, move_names, action_names};
+ghost use Rattle.action_tree.specs.Writable.{is_action};
+ghost use Rattle.action_tree.specs.Views as view;
+ghost use Rattle.action_tree.specs.Places as spec;
 
 use crate::expression::Guard;
 use crate::places::{no_port, placed_guard, placed_port, placed_sum, placed_var};

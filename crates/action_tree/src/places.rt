@@ -2,11 +2,10 @@
 //! of a bound name among the names in force.
 
 ghost use Rattle.std.specs.Prelude.{◌≡◌, true, suc};
+ghost use Rattle.action_tree.specs.{PlacedScope.{placed_scope}, Scopes.{HasRoom, scope_with}};
+ghost use Rattle.action_tree.specs.Writable.{guard_names, guards_names, sum_names, term_names, port_names};
 ghost use Rattle.action_tree.specs.Views as view;
 ghost use Rattle.action_tree.specs.Places as spec;
-ghost use Rattle.action_tree.specs.PlacedScope.{placed_scope};
-ghost use Rattle.action_tree.specs.Scopes.{HasRoom, scope_with};
-ghost use Rattle.action_tree.specs.Writable.{guard_names, guards_names, sum_names, term_names, port_names};
 
 use crate::expression::{DirTerm, Guard, Part, PortExpr, Sum, Term};
 use crate::scope::Scope;

@@ -1,8 +1,7 @@
 //! Variables, actions and whole programs.
 
 ghost use Rattle.std.specs.Prelude.{◌≡◌, true, map};
-ghost use Rattle.action_tree.specs.Views.{var_of, action_of, program_of};
-ghost use Rattle.action_tree.specs.Writable.{is_writable};
+ghost use Rattle.action_tree.specs.{Views.{var_of, action_of, program_of}, Writable.{is_writable}};
 
 use crate::expression::Guard;
 use crate::placed_actions::place_actions;
@@ -37,21 +36,19 @@ pub struct Program {
 
 impl Model for Program {
     ghost use Rattle.std.specs.Prelude.{◌≡◌, true};
-    ghost use Rattle.action_tree.specs.Trees.{Program as Tree};
     ghost use Rattle.action_tree.specs.Stored.{program_code};
+    ghost use Rattle.action_tree.specs.Trees.Program as Tree;
 
     ghost Value = { Tree };
 
     ghost coded = { program_code };
 
-    ghost use Rattle.action_tree.specs.Views.{program_of};
-    ghost use Rattle.action_tree.specs.Writable.{is_writable};
+    ghost use Rattle.action_tree.specs.{Views.{program_of}, Writable.{is_writable}};
 
     ghost view = { λ p. program_of p.guard p.vars.items p.actions.items };
 
     ghost use Rattle.std.specs.Prelude.{[]};
-    ghost use Rattle.action_tree.specs.Places.{actions_placed};
-    ghost use Rattle.action_tree.specs.Scopes.{at_start};
+    ghost use Rattle.action_tree.specs.{Places.{actions_placed}, Scopes.{at_start}};
 
     ghost invariant = { λ p. (is_writable (program_of p.guard p.vars.items p.actions.items) ≡ true)
         × (actions_placed p.actions.items (at_start (program_of p.guard p.vars.items p.actions.items))
@@ -59,8 +56,7 @@ impl Model for Program {
 }
 
 impl Program {
-    ghost use Rattle.action_tree.specs.Places.{actions_placed};
-    ghost use Rattle.action_tree.specs.Scopes.{at_start};
+    ghost use Rattle.action_tree.specs.{Places.{actions_placed}, Scopes.{at_start}};
 
     /// The program with the guard of movements on or off, these variables and these actions.
     pub fn make(guard: bool, vars: Vec<Var>, mut actions: Vec<Action>) -> Program

@@ -1,8 +1,6 @@
 //! The names known where a part of a program stands, and the place of each of them.
 
-ghost use Rattle.std.specs.Prelude.{◌≡◌, ◌≤◌, length};
-ghost use Rattle.std.specs.List.{position};
-ghost use Rattle.std.specs.Str.{bytes_eq};
+ghost use Rattle.std.specs.{Prelude.{◌≡◌, ◌≤◌, length}, List.{position}, Str.{bytes_eq}};
 ghost use Rattle.amoebot_state.specs.Limits.{most_vars};
 
 use crate::program::Var;
@@ -20,10 +18,8 @@ pub struct Scope<'v> {
 
 impl<'v> Scope<'v> {
     ghost use Rattle.std.specs.Prelude.{[], map};
-    ghost use Rattle.action_tree.specs.Places.{place_among};
-    ghost use Rattle.action_tree.specs.PlacedScope.{placed_scope};
-    ghost use Rattle.action_tree.specs.Scopes.{HasRoom, names_of_vars, scope_with};
-    ghost use Rattle.action_tree.specs.Views.{name_of, var_of};
+    ghost use Rattle.action_tree.specs.{Places.{place_among}, PlacedScope.{placed_scope}};
+    ghost use Rattle.action_tree.specs.{Scopes.{HasRoom, names_of_vars, scope_with}, Views.{name_of, var_of}};
 
     /// The names at the start of an action: no name is in force.
     pub fn new(vars: &'v [Var]) -> Scope<'v>

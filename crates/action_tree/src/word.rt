@@ -1,8 +1,7 @@
 //! Names and numbers, each with the line that it stands on.
 
 ghost use Rattle.std.specs.Prelude.{◌≡◌, true};
-ghost use Rattle.action_tree.specs.Views.{name_of};
-ghost use Rattle.action_tree.specs.Words.{is_word};
+ghost use Rattle.action_tree.specs.{Views.{name_of}, Words.{is_word}};
 
 use arrayvec::ArrayString;
 

@@ -1,6 +1,5 @@
 ghost use Rattle.std.specs.Prelude.{◌≡◌, ◌<◌};
-ghost use Rattle.claim_rule.specs.Plays.{about, bot_in};
-ghost use Rattle.claim_rule.specs.Tokens.{IsOf, doing};
+ghost use Rattle.claim_rule.specs.{Plays.{about, bot_in}, Tokens.{IsOf, doing}};
 ghost use Rattle.node_claims.specs.Answers.{HasAnswered};
 
 use crate::gate::Gate;

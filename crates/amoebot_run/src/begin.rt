@@ -2,16 +2,10 @@
 //!
 //! It also answers each command that needs no workers. It waits for nothing.
 
-ghost use Rattle.std.specs.Prelude.{◌≡◌, ◌⊎◌, Some, ⊤, true};
-ghost use Rattle.std.specs.List.{list_any};
-ghost use Rattle.std.specs.String.{string_bytes};
-ghost use Rattle.commands.specs.Syntax.{begins_with_dash};
-ghost use Rattle.commands.specs.Commands.{ReadsNothing};
-ghost use Rattle.commands.specs.Reads.{nothing};
-ghost use Rattle.amoebot_run.specs.Clauses.{CameTo, WroteAll, WroteFront, asked};
-ghost use Rattle.amoebot_run.specs.Endings.{IsEnding};
-ghost use Rattle.amoebot_run.specs.Parts.{HasEnded, IsBegun};
-ghost use Rattle.amoebot_run.specs.Working.{HasTickets, HasTurns};
+ghost use Rattle.std.specs.{Prelude.{◌≡◌, ◌⊎◌, Some, ⊤, true}, List.{list_any}, String.{string_bytes}};
+ghost use Rattle.commands.specs.{Syntax.{begins_with_dash}, Commands.{ReadsNothing}, Reads.{nothing}};
+ghost use Rattle.amoebot_run.specs.{Clauses.{CameTo, WroteAll, WroteFront, asked}, Endings.{IsEnding}};
+ghost use Rattle.amoebot_run.specs.{Parts.{HasEnded, IsBegun}, Working.{HasTickets, HasTurns}};
 
 use crate::ended::{Ended, end_with, end_with_answer, end_with_line};
 use amoebot_state::NoMemory;

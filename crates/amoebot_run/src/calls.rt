@@ -1,15 +1,13 @@
 //! The top calls.
 //! They may wait: all that they call returns, apart from `make_turns`, which starts the workers.
 
-ghost use Rattle.std.specs.Prelude.{◌≡◌, ◌≤◌, ◌⊎◌, ℕ, true, List, length, IfSome, Some};
-ghost use Rattle.std.specs.List.{list_any};
+ghost use Rattle.std.specs.{Prelude.{◌≡◌, ◌≤◌, ◌⊎◌, ℕ, true, List, length, IfSome, Some}, List.{list_any}};
 ghost use Rattle.std.specs.String.{string_bytes};
 ghost use Rattle.outer_io.specs.Told.{Rose};
 ghost use Rattle.shape_files.specs.Documents.{Contents};
-ghost use Rattle.commands.specs.declared.words.DocumentCommand.{DocumentCommand as DocumentCommandValue};
-ghost use Rattle.commands.specs.Syntax.{begins_with_dash};
-ghost use Rattle.commands.specs.Commands.{IsDocumentOf, ReadsNothing, limit_for};
+ghost use Rattle.commands.specs.{Syntax.{begins_with_dash}, Commands.{IsDocumentOf, ReadsNothing, limit_for}};
 ghost use Rattle.commands.specs.Reads.{nothing, whole};
+ghost use Rattle.commands.specs.declared.words.DocumentCommand.DocumentCommand as DocumentCommandValue;
 ghost use Rattle.amoebot_run.specs.Clauses.{CameTo, WroteAll, WroteFront, asked};
 ghost use Rattle.amoebot_run.specs.Endings.{EndingTells, HasText, IsEnding, IsOutsideFault, IsReadingOf};
 ghost use Rattle.amoebot_run.specs.Endings.{IsReportOfCall, IsServed, IsUnwritten};

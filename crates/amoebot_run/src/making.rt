@@ -1,7 +1,6 @@
 //! The middle part of `run`: workers make the turns of the lists, and it waits for them.
 
-ghost use Rattle.std.specs.Prelude.{IfOk, IsSome};
-ghost use Rattle.std.specs.List.{All};
+ghost use Rattle.std.specs.{Prelude.{IfOk, IsSome}, List.{All}};
 ghost use Rattle.amoebot_state.specs.Configs.{bot_at};
 ghost use Rattle.amoebot_run.specs.Parts.{IsMade};
 

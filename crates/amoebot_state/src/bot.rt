@@ -1,6 +1,7 @@
 ghost use Rattle.std.specs.Prelude.{◌≡◌, ◌<◌, ◌%◌, true};
 ghost use Rattle.tri_lattice.specs.Lattice.{IsNear};
-ghost use Rattle.amoebot_state.specs.Ports.{pair_place, global, local, is_port, behind, end_node, end_word, is_contracted, is_own};
+ghost use Rattle.amoebot_state.specs.Ports.{pair_place, global, local, is_port, behind, end_node, end_word};
+ghost use Rattle.amoebot_state.specs.Ports.{is_contracted, is_own};
 
 use tri_lattice::{Dir, Node};
 

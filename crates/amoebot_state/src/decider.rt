@@ -1,7 +1,7 @@
 ghost use Rattle.std.specs.Prelude.{◌≡◌};
 ghost use Rattle.amoebot_state.specs.Zones.{Shown};
-ghost use Rattle.amoebot_state.specs.Steps.{IsLawful, TouchesZone, HasPatchedWorld, ListsDifferences, OldValuesAreFound};
-ghost use Rattle.amoebot_state.specs.declared.verdict.Verdict.{Verdict};
+ghost use Rattle.amoebot_state.specs.Steps.{IsLawful, TouchesZone, HasPatchedWorld, ListsDifferences};
+ghost use Rattle.amoebot_state.specs.{Steps.{OldValuesAreFound}, declared.verdict.Verdict.{Verdict}};
 
 use crate::found::Found;
 use crate::verdict::Verdict;

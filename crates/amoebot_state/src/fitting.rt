@@ -1,13 +1,10 @@
-ghost use Rattle.std.specs.Prelude.{◌≡◌, Decides};
-ghost use Rattle.std.specs.List.{All};
-ghost use Rattle.std.specs.Option.{option_copied};
-ghost use Rattle.amoebot_state.specs.declared.cell.CellName.{CellName};
-ghost use Rattle.amoebot_state.specs.declared.cell.Cell.{Cell};
+ghost use Rattle.std.specs.{Prelude.{◌≡◌, Decides}, List.{All}, Option.{option_copied}};
+ghost use Rattle.amoebot_state.specs.{declared.cell.CellName.{CellName}, declared.cell.Cell.{Cell}};
 ghost use Rattle.amoebot_state.specs.Pairs.{cell_of, cell_value, plain_patch};
-ghost use Rattle.amoebot_state.specs.Configs.{bot_at, covers, value};
-ghost use Rattle.amoebot_state.specs.Patches.{HasPatched, bot_eq, id_eq};
-ghost use Rattle.amoebot_state.specs.Fitting.{all_fit, body_fits, body_after, cell_fits, has_bot, has_cell, have_cells, is_kept};
-ghost use Rattle.amoebot_state.specs.Fitting.{is_left, is_owned, is_to_be, may_stand, occupant_after, spot_fits, takes_over};
+ghost use Rattle.amoebot_state.specs.{Configs.{bot_at, covers, value}, Patches.{HasPatched, bot_eq, id_eq}};
+ghost use Rattle.amoebot_state.specs.Fitting.{all_fit, body_fits, body_after, cell_fits, has_bot, has_cell};
+ghost use Rattle.amoebot_state.specs.Fitting.{have_cells, is_kept, is_left, is_owned, is_to_be, may_stand};
+ghost use Rattle.amoebot_state.specs.Fitting.{occupant_after, spot_fits, takes_over};
 
 use crate::bot::Bot;
 use crate::cell::{Cell, CellName, Patch};

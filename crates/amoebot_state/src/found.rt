@@ -1,16 +1,13 @@
-ghost use Rattle.std.specs.Prelude.{◌≡◌, ℕ, Option, ◌+◌, ◌≤◌, ◌<◌, length, slice_get, true, IfSome, IsSome, IsTrue, Some};
-ghost use Rattle.std.specs.Option.{option_copied};
+ghost use Rattle.std.specs.Prelude.{◌≡◌, ℕ, Option, ◌+◌, ◌≤◌, ◌<◌, length, slice_get, true, IfSome, IsSome};
+ghost use Rattle.std.specs.{Prelude.{IsTrue, Some}, Option.{option_copied}};
 ghost use Rattle.amoebot_state.specs.Limits.{most_cells, most_nodes};
 ghost use Rattle.amoebot_state.specs.Configs.{IsValid, bot_at, bot_of, is_wall, occupant};
-ghost use Rattle.amoebot_state.specs.Ports.{is_beside};
-ghost use Rattle.amoebot_state.specs.Around.{behind_pair, on_node};
-ghost use Rattle.amoebot_state.specs.Refusals.{IsBotInRange};
-ghost use Rattle.amoebot_state.specs.declared.bot.Bot.{Bot};
-ghost use Rattle.amoebot_state.specs.Ways.{reading, ways_of};
-ghost use Rattle.amoebot_state.specs.Walls.{has_node, node_numbers};
+ghost use Rattle.amoebot_state.specs.{Ports.{is_beside}, Around.{behind_pair, on_node}};
+ghost use Rattle.amoebot_state.specs.{Refusals.{IsBotInRange}, declared.bot.Bot.{Bot}};
+ghost use Rattle.amoebot_state.specs.{Ways.{reading, ways_of}, Walls.{has_node, node_numbers}};
 ghost use Rattle.amoebot_state.specs.Zones.{IsShown, shown, shown_alone, shown_by, zone_nodes};
-ghost use Rattle.tri_lattice.specs.declared.node.Node.{Node};
 ghost use Rattle.amoebot_state.specs.Pairs.{body_at, body_in, spot_at, spot_in};
+ghost use Rattle.tri_lattice.specs.declared.node.Node.{Node};
 
 use crate::bot::{Bot, Port};
 use crate::cell::{Cell, CellName, MOST_CELLS};
@@ -55,9 +52,7 @@ pub struct Found {
 }
 
 impl Model for Found {
-    ghost use Rattle.amoebot_state.specs.Walls.{node_numbers};
-    ghost use Rattle.amoebot_state.specs.Ways.{IsFound};
-    ghost use Rattle.amoebot_state.specs.Zones.{Shown, shown_by};
+    ghost use Rattle.amoebot_state.specs.{Walls.{node_numbers}, Ways.{IsFound}, Zones.{Shown, shown_by}};
 
     ghost Value = { Shown };
 

@@ -1,10 +1,8 @@
-ghost use Rattle.std.specs.Prelude.{◌≡◌, ◌⊎◌, ◌<◌, ◌≤◌, ◌*◌, ◌++◌, ◌∷◌, ℕ, [], Decides, IfErr, IfOk, List, OnOk, length, not, slice_index_or, slice_set, true, false};
-ghost use Rattle.tri_lattice.specs.declared.node.Node.{Node};
-ghost use Rattle.tri_lattice.specs.Extent.{index_of};
-ghost use Rattle.amoebot_state.specs.Limits.{most_walls};
-ghost use Rattle.amoebot_state.specs.Configs.{IsValid, frame, is_wall, walled_frame};
-ghost use Rattle.amoebot_state.specs.Refusals.{AreWalls, IsFirstBadWall, is_bad_wall};
-ghost use Rattle.amoebot_state.specs.Storage.{IsMarked};
+ghost use Rattle.std.specs.Prelude.{◌≡◌, ◌⊎◌, ◌<◌, ◌≤◌, ◌*◌, ◌++◌, ◌∷◌, ℕ, [], Decides, IfErr, IfOk, List};
+ghost use Rattle.std.specs.Prelude.{OnOk, length, not, slice_index_or, slice_set, true, false};
+ghost use Rattle.tri_lattice.specs.{declared.node.Node.{Node}, Extent.{index_of}};
+ghost use Rattle.amoebot_state.specs.{Limits.{most_walls}, Configs.{IsValid, frame, is_wall, walled_frame}};
+ghost use Rattle.amoebot_state.specs.{Refusals.{AreWalls, IsFirstBadWall, is_bad_wall}, Storage.{IsMarked}};
 
 use crate::refusal::{NoMemory, WorldRefusal};
 use std::alloc::Global;
@@ -21,8 +19,7 @@ pub(crate) struct Frame {
 }
 
 impl Model for Frame {
-    ghost use Rattle.amoebot_state.specs.Configs.{Config};
-    ghost use Rattle.amoebot_state.specs.Storage.{IsFrame, gridded_frame};
+    ghost use Rattle.amoebot_state.specs.{Configs.{Config}, Storage.{IsFrame, gridded_frame}};
 
     ghost Value = { Config };
 

@@ -2,8 +2,7 @@ ghost use Rattle.std.specs.Prelude.{◌≡◌, ◌∷◌, ◌++◌, [], OnOk, On
 ghost use Rattle.amoebot_state.specs.Configs.{is_close, has_values};
 ghost use Rattle.amoebot_state.specs.Storage.{put_at, put_bot, put_spot, put_bots, put_spots};
 ghost use Rattle.amoebot_state.specs.Pairs.{plain_patch};
-ghost use Rattle.tri_lattice.specs.Lattice.{IsNear};
-ghost use Rattle.tri_lattice.specs.Extent.{index_of};
+ghost use Rattle.tri_lattice.specs.{Lattice.{IsNear}, Extent.{index_of}};
 
 use crate::bot::Bot;
 use crate::cell::{Cell, CellName};

@@ -1,20 +1,21 @@
-ghost use Rattle.amoebot_state.specs.Laws.{GlobalAndLocalAreInverse, ContractedHasSixPorts, ExpandedHasTenPorts};
-ghost use Rattle.amoebot_state.specs.Laws.{SixPortsLeadToSixNodes, TenPortsLeadToEightNodes, ZoneIsDetermined};
-ghost use Rattle.amoebot_state.specs.Laws.{ShownListsZone, ShownHoldsValues, KnownIsFront, NextIsInZone, FrontGrows};
+ghost use Rattle.amoebot_state.specs.Laws.{GlobalAndLocalAreInverse, ContractedHasSixPorts};
+ghost use Rattle.amoebot_state.specs.Laws.{ExpandedHasTenPorts, SixPortsLeadToSixNodes};
+ghost use Rattle.amoebot_state.specs.Laws.{TenPortsLeadToEightNodes, ZoneIsDetermined, ShownListsZone};
+ghost use Rattle.amoebot_state.specs.Laws.{ShownHoldsValues, KnownIsFront, NextIsInZone, FrontGrows};
 ghost use Rattle.amoebot_state.specs.Laws.{NextIsNew, KnownGrowsAtItsEnd, WholeZoneIsShown, FrontStands};
-ghost use Rattle.amoebot_state.specs.Laws.{ZoneListsEachCellOnce, ZoneHasAtMostTenNodes, ZoneHasAtMostNineBodies};
-ghost use Rattle.amoebot_state.specs.Laws.{NodeBehindPortIsInZone, OccupantBehindPortIsInZone};
-ghost use Rattle.amoebot_state.specs.Laws.{ShownAloneShowsTheSame, PatchedIsUnique, PatchListsWhatDiffers};
-ghost use Rattle.amoebot_state.specs.Laws.{StepHasOneResult, RunHasOneLast, SameValueIsEquality, DiffLeads};
-ghost use Rattle.amoebot_state.specs.Laws.{OrderedPatchIsDiff, OldValuesAreOne, ValidIsFaultless, FaultlessIsValid};
+ghost use Rattle.amoebot_state.specs.Laws.{ZoneListsEachCellOnce, ZoneHasAtMostTenNodes};
+ghost use Rattle.amoebot_state.specs.Laws.{ZoneHasAtMostNineBodies, NodeBehindPortIsInZone};
+ghost use Rattle.amoebot_state.specs.Laws.{OccupantBehindPortIsInZone, ShownAloneShowsTheSame};
+ghost use Rattle.amoebot_state.specs.Laws.{PatchedIsUnique, PatchListsWhatDiffers, StepHasOneResult};
+ghost use Rattle.amoebot_state.specs.Laws.{RunHasOneLast, SameValueIsEquality, DiffLeads, OrderedPatchIsDiff};
+ghost use Rattle.amoebot_state.specs.Laws.{OldValuesAreOne, ValidIsFaultless, FaultlessIsValid};
 ghost use Rattle.amoebot_state.specs.Laws.{FirstFaultIsUnique, FaultlessHasNoFault, ShownAloneIsValid};
 ghost use Rattle.amoebot_state.specs.Laws.{ShownAloneHoldsTheSame, OccupiedIsOccupant, PortLeadsBeside};
 ghost use Rattle.amoebot_state.specs.Laws.{ShownAloneHasTheZone, NoneIsOutsideTheZone, BesideHoldsTheSame};
 ghost use Rattle.amoebot_state.specs.Laws.{FirstRefusalIsUnique, WalledFrameIsValid, NodesAreTheirNumbers};
 ghost use Rattle.amoebot_state.specs.Laws.{LawfulHasNoRefusal, ShownHasTheWalls, BesideHasTheSameWalls};
-ghost use Rattle.amoebot_state.specs.Reversals.{ReversedLeadsBack};
+ghost use Rattle.amoebot_state.specs.{Laws.{SerialTurnIsUnique}, Reversals.{ReversedLeadsBack}};
 ghost use Rattle.amoebot_state.specs.Examples.{SmallFaults, SmallRefusals};
-ghost use Rattle.amoebot_state.specs.Laws.{SerialTurnIsUnique};
 
 /// Local and global directions are both 0 to 5, and the one is the inverse of the other,
 /// with either chirality.

@@ -1,9 +1,6 @@
 ghost use Rattle.std.specs.Prelude.{◌≡◌, ◌<◌, ◌≤◌, ◌+◌, ◌++◌, IfSome, length, map};
-ghost use Rattle.amoebot_state.specs.Limits.{node_room, cell_room};
-ghost use Rattle.amoebot_state.specs.Known.{read_on, known_zone, next_cell};
-ghost use Rattle.amoebot_state.specs.Pairs.{body_in};
-ghost use Rattle.amoebot_state.specs.Refusals.{IsBotInRange};
-ghost use Rattle.amoebot_state.specs.Zones.{others};
+ghost use Rattle.amoebot_state.specs.{Limits.{node_room, cell_room}, Known.{read_on, known_zone, next_cell}};
+ghost use Rattle.amoebot_state.specs.{Pairs.{body_in}, Refusals.{IsBotInRange}, Zones.{others}};
 ghost use Rattle.arrayvec.specs.ArrayVec.{array_vec_len};
 
 use crate::cell::{CELL_ROOM, Cell, CellName};

@@ -1,8 +1,6 @@
 ghost use Rattle.std.specs.Prelude.{◌≡◌, ℕ, ◌∷◌, ◌++◌, [], slice_get};
 ghost use Rattle.tri_lattice.specs.Extent.{Extent};
-ghost use Rattle.amoebot_state.specs.Known.{AreReadInOrder};
-ghost use Rattle.amoebot_state.specs.Pairs.{Pairs};
-ghost use Rattle.amoebot_state.specs.Ways.{reading};
+ghost use Rattle.amoebot_state.specs.{Known.{AreReadInOrder}, Pairs.{Pairs}, Ways.{reading}};
 
 use crate::cell::{Cell, CellName};
 use crate::way::{FewNodes, Way, Ways, push_nodes};
@@ -28,8 +26,8 @@ pub struct KnownZone {
 
 impl Model for KnownZone {
     ghost use Rattle.std.specs.Prelude.{◌∷◌, ◌++◌, map};
-    ghost use Rattle.amoebot_state.specs.declared.cell.CellName.TheVariants as name;
     ghost use Rattle.amoebot_state.specs.Ways.{Reading};
+    ghost use Rattle.amoebot_state.specs.declared.cell.CellName.TheVariants as name;
 
     ghost Value = { Reading };
 

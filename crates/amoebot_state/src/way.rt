@@ -2,13 +2,10 @@ ghost use Rattle.std.specs.Prelude.{◌≡◌, ◌<◌, ◌≤◌, ◌+◌, [], 
 ghost use Rattle.std.specs.List.{fold, position};
 ghost use Rattle.amoebot_state.specs.declared.bot.End.TheVariants.{Head, Tail};
 ghost use Rattle.amoebot_state.specs.Ports.{all_ports, behind, is_contracted, own_nodes, port};
-ghost use Rattle.amoebot_state.specs.Refusals.{IsBotInRange};
-ghost use Rattle.amoebot_state.specs.Storage.{with_new, with_port};
-ghost use Rattle.amoebot_state.specs.Ways.{node_place, way_among, ways_of};
-ghost use Rattle.amoebot_state.specs.Zones.{zone_nodes};
+ghost use Rattle.amoebot_state.specs.{Refusals.{IsBotInRange}, Storage.{with_new, with_port}};
+ghost use Rattle.amoebot_state.specs.{Ways.{node_place, way_among, ways_of}, Zones.{zone_nodes}};
 ghost use Rattle.arrayvec.specs.ArrayVec.{array_vec_len};
-ghost use Rattle.tri_lattice.specs.Extent.{is_in};
-ghost use Rattle.tri_lattice.specs.Lattice.{node_eq};
+ghost use Rattle.tri_lattice.specs.{Extent.{is_in}, Lattice.{node_eq}};
 
 use crate::bot::Bot;
 use arrayvec::ArrayVec;

@@ -1,14 +1,15 @@
-ghost use Rattle.std.specs.Prelude.{ℕ, ◌≡◌, ◌⊎◌, ◌+◌, ◌++◌, ◌∷◌, ◌<◌, ◌≤◌, [], OnOk, IfOk, IfErr, filter, length, map, IsSome, Decides, is_some, ◌&&◌, ◌||◌, if◌then◌else◌};
+ghost use Rattle.std.specs.Prelude.{ℕ, ◌≡◌, ◌⊎◌, ◌+◌, ◌++◌, ◌∷◌, ◌<◌, ◌≤◌, [], OnOk, IfOk, IfErr, filter};
+ghost use Rattle.std.specs.Prelude.{length, map, IsSome, Decides, is_some, ◌&&◌, ◌||◌, if◌then◌else◌};
 ghost use Rattle.std.specs.List.{All, filter_map};
 ghost use Rattle.amoebot_state.specs.Limits.{most_bots, most_cells, most_nodes, most_walls};
-ghost use Rattle.amoebot_state.specs.Configs.{Config, IsValid, bot_at, frame, is_wall, occupant, frame_of, walled_frame, with_these, with_bot};
+ghost use Rattle.amoebot_state.specs.Configs.{Config, IsValid, bot_at, frame, is_wall, occupant, frame_of};
+ghost use Rattle.amoebot_state.specs.Configs.{walled_frame, with_these, with_bot};
 ghost use Rattle.amoebot_state.specs.Zones.{IsShown, shown, shown_cell, shown_with, zone, zone_nodes, others};
-ghost use Rattle.amoebot_state.specs.Known.{walls_read};
-ghost use Rattle.amoebot_state.specs.Ways.{reading};
-ghost use Rattle.amoebot_state.specs.Pairs.{nodes_in, plain_patch};
-ghost use Rattle.tri_lattice.specs.Extent.{index_of, is_in};
+ghost use Rattle.amoebot_state.specs.{Known.{walls_read}, Ways.{reading}, Pairs.{nodes_in, plain_patch}};
 ghost use Rattle.amoebot_state.specs.Patches.{IsPatched, HasPatched};
-ghost use Rattle.amoebot_state.specs.Refusals.{AreWalls, IsBotInRange, IsFaultless, IsFirstFault, IsFirstRefusal, bot_fault};
+ghost use Rattle.amoebot_state.specs.Refusals.{AreWalls, IsBotInRange, IsFaultless, IsFirstFault};
+ghost use Rattle.amoebot_state.specs.Refusals.{IsFirstRefusal, bot_fault};
+ghost use Rattle.tri_lattice.specs.Extent.{index_of, is_in};
 ghost use Rattle.arrayvec.specs.ArrayVec.{array_vec_len};
 
 use crate::bot::Bot;

@@ -1,11 +1,7 @@
-ghost use Rattle.std.specs.Prelude.{◌≡◌, ◌<◌, ◌≤◌, ◌+◌, nat_eq};
-ghost use Rattle.std.specs.List.{list_any};
+ghost use Rattle.std.specs.{Prelude.{◌≡◌, ◌<◌, ◌≤◌, ◌+◌, nat_eq}, List.{list_any}};
 ghost use Rattle.tri_lattice.specs.Lattice.{node_eq};
-ghost use Rattle.amoebot_state.specs.Limits.{node_room};
-ghost use Rattle.amoebot_state.specs.Ports.{own_nodes};
-ghost use Rattle.amoebot_state.specs.Refusals.{IsBotInRange};
-ghost use Rattle.amoebot_state.specs.Storage.{with_new, with_other, with_port};
-ghost use Rattle.amoebot_state.specs.Zones.{zone_nodes};
+ghost use Rattle.amoebot_state.specs.{Limits.{node_room}, Ports.{own_nodes}, Refusals.{IsBotInRange}};
+ghost use Rattle.amoebot_state.specs.{Storage.{with_new, with_other, with_port}, Zones.{zone_nodes}};
 ghost use Rattle.arrayvec.specs.ArrayVec.{array_vec_len};
 
 use crate::bot::{ALL_PORTS, Bot, Port};

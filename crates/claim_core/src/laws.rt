@@ -1,9 +1,11 @@
 ghost use Rattle.claim_core.specs.Laws.{TagTellsItsOwner, IsAlwaysSound, ReachedIsGood, StateHasOneReport};
-ghost use Rattle.claim_core.specs.Laws.{EntryIsDecided, CommittedIsJournal, CommittedIsShown, OneListIsNeverBusy};
-ghost use Rattle.claim_core.specs.Laws.{OneListIsSerial, EndedStays, HoldsNothingHasNoTag, HeldByOne, RoundsEnd, RoundsLeaveAReport};
-ghost use Rattle.claim_core.specs.TicketLaws.{TicketsAreSound, TicketsHoldNoJournal, TicketStepsAreEvents, TicketsAreClaims};
-ghost use Rattle.claim_core.specs.TicketLaws.{TicketReachedIsReached, TicketReachedIsGood, TicketsWaitForNobody, TicketsLeaveAReport};
-ghost use Rattle.claim_core.specs.TicketLaws.{JournalIsMerge, MergeIsOne, NextIsFirst, NoPlaceNoEntry, SmallMerge};
+ghost use Rattle.claim_core.specs.Laws.{EntryIsDecided, CommittedIsJournal, CommittedIsShown};
+ghost use Rattle.claim_core.specs.Laws.{OneListIsNeverBusy, OneListIsSerial, EndedStays};
+ghost use Rattle.claim_core.specs.Laws.{HoldsNothingHasNoTag, HeldByOne, RoundsEnd, RoundsLeaveAReport};
+ghost use Rattle.claim_core.specs.TicketLaws.{TicketsAreSound, TicketsHoldNoJournal, TicketStepsAreEvents};
+ghost use Rattle.claim_core.specs.TicketLaws.{TicketsAreClaims, TicketReachedIsReached, TicketReachedIsGood};
+ghost use Rattle.claim_core.specs.TicketLaws.{TicketsWaitForNobody, TicketsLeaveAReport, JournalIsMerge};
+ghost use Rattle.claim_core.specs.TicketLaws.{MergeIsOne, NextIsFirst, NoPlaceNoEntry, SmallMerge};
 ghost use Rattle.claim_core.specs.SerialRuns.{SerialRunIsDetermined, SerialReportIsDetermined};
 
 use amoebot_state::step_has_one_result;

@@ -1,4 +1,5 @@
-ghost use Rattle.std.specs.Prelude.{◌≡◌, ◌+◌, ◌<◌, ◌∷◌, ◌++◌, [], length, replicate, slice_get, slice_set, IfOk, Some};
+ghost use Rattle.std.specs.Prelude.{◌≡◌, ◌+◌, ◌<◌, ◌∷◌, ◌++◌, [], length, replicate, slice_get, slice_set};
+ghost use Rattle.std.specs.Prelude.{IfOk, Some};
 ghost use Rattle.claim_core.specs.Turns.{AreFew, MarkLists, marks_of};
 
 use amoebot_state::{CellName, Failure, NoMemory};
@@ -39,8 +40,7 @@ pub struct Marks {
 
 impl Model for Marks {
     ghost use Rattle.std.specs.Prelude.{map};
-    ghost use Rattle.claim_core.specs.Turns.{MarkLists};
-    ghost use Rattle.claim_core.specs.Rooms.{HaveRoom};
+    ghost use Rattle.claim_core.specs.{Turns.{MarkLists}, Rooms.{HaveRoom}};
 
     ghost Value = { MarkLists };
 

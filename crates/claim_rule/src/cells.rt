@@ -1,8 +1,6 @@
 ghost use Rattle.std.specs.Prelude.{◌≡◌, ◌<◌, ◌≤◌, ◌∷◌, ◌++◌, [], length, map};
-ghost use Rattle.amoebot_state.specs.declared.cell.Cell.{Cell};
-ghost use Rattle.amoebot_state.specs.declared.cell.CellName.{CellName};
-ghost use Rattle.amoebot_state.specs.Limits.{most_cells};
-ghost use Rattle.amoebot_state.specs.Pairs.{Pairs};
+ghost use Rattle.amoebot_state.specs.{declared.cell.Cell.{Cell}, declared.cell.CellName.{CellName}};
+ghost use Rattle.amoebot_state.specs.{Limits.{most_cells}, Pairs.{Pairs}};
 ghost use Rattle.claim_core.specs.Machine.{patched_pair};
 
 use crate::renewal::renew;
@@ -19,8 +17,7 @@ pub(crate) struct Cells {
 
 impl Model for Cells {
     ghost use Rattle.std.specs.Prelude.{◌≡◌, ◌≤◌, length, take};
-    ghost use Rattle.amoebot_state.specs.Limits.{most_cells};
-    ghost use Rattle.amoebot_state.specs.Pairs.{Pairs};
+    ghost use Rattle.amoebot_state.specs.{Limits.{most_cells}, Pairs.{Pairs}};
 
     ghost Value = { Pairs };
 

@@ -1,8 +1,8 @@
 ghost use Rattle.std.specs.Prelude.{◌≡◌, ◌<◌, ◌≤◌, None, length};
-ghost use Rattle.claim_core.specs.Limits.{most_turns};
-ghost use Rattle.claim_core.specs.Machine.{phase_of_verdict};
+ghost use Rattle.claim_core.specs.{Limits.{most_turns}, Machine.{phase_of_verdict}};
 ghost use Rattle.claim_rule.specs.Plays.{about, marked_at};
-ghost use Rattle.claim_rule.specs.Tokens.{IsOf, IsToLook, IsMarked, number_in, doing, goes, next_in, found_in, verdict_in, placed_turn};
+ghost use Rattle.claim_rule.specs.Tokens.{IsOf, IsToLook, IsMarked, number_in, doing, goes, next_in};
+ghost use Rattle.claim_rule.specs.Tokens.{found_in, verdict_in, placed_turn};
 
 use crate::activation::Activation;
 use crate::field::Field;

@@ -1,21 +1,14 @@
 //! How a field ends.
-ghost use Rattle.std.specs.Prelude.{◌≡◌, ◌+◌, ℕ, List, [], slice_get, Some, IsSome};
-ghost use Rattle.std.specs.List.{All};
+ghost use Rattle.std.specs.{Prelude.{◌≡◌, ◌+◌, ℕ, List, [], slice_get, Some, IsSome}, List.{All}};
 ghost use Rattle.std.specs.Slots.{slots_items, slots_len, IsFull};
-ghost use lib.ListN.{get_elem?};
-ghost use mathlib.Core.Option.{some};
-ghost use Rattle.amoebot_state.specs.Configs.{Config};
-ghost use Rattle.amoebot_state.specs.Steps.{Run};
-ghost use Rattle.claim_core.specs.Soundness.{IsSetup};
-ghost use Rattle.claim_core.specs.Turns.{Kept};
-ghost use Rattle.claim_rule.specs.Manners.{by_journal, by_ticket};
-ghost use Rattle.claim_rule.specs.declared.views.Record.{Record};
+ghost use lib.ListN.get_elem?;
+ghost use mathlib.Core.Option.some;
+ghost use Rattle.amoebot_state.specs.{Configs.{Config}, Steps.{Run}};
+ghost use Rattle.claim_core.specs.{Soundness.{IsSetup}, Turns.{Kept}};
+ghost use Rattle.claim_rule.specs.{Manners.{by_journal, by_ticket}, declared.views.Record.{Record}};
+ghost use Rattle.claim_rule.specs.{Views.{setup_of_terms, view_of}, Tokens.{Token}, Seating.{AreOf}};
+ghost use Rattle.claim_rule.specs.{Closing.{ClosesAs, LeavesAs, HoldNothing, EndsRight}, Internal.{HaveAll}};
 ghost use Rattle.claim_rule.specs.declared.views.Slot.TheVariants as slot;
-ghost use Rattle.claim_rule.specs.Views.{setup_of_terms, view_of};
-ghost use Rattle.claim_rule.specs.Tokens.{Token};
-ghost use Rattle.claim_rule.specs.Seating.{AreOf};
-ghost use Rattle.claim_rule.specs.Closing.{ClosesAs, LeavesAs, HoldNothing, EndsRight};
-ghost use Rattle.claim_rule.specs.Internal.{HaveAll};
 
 use crate::field::Field;
 use crate::manner::{ByTicket, Manner};

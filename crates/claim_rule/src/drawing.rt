@@ -1,6 +1,5 @@
 ghost use Rattle.std.specs.Prelude.{◌≡◌};
-ghost use Rattle.claim_rule.specs.Tokens.{IsOf};
-ghost use Rattle.claim_rule.specs.Settling.{HasStored, IsToTake};
+ghost use Rattle.claim_rule.specs.{Tokens.{IsOf}, Settling.{HasStored, IsToTake}};
 
 use crate::claimed::Claimed;
 use crate::field::Field;

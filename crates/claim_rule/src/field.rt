@@ -3,18 +3,13 @@
 //! It is laid out and given back here.
 //! `steps`, `nodes`, `slots` and `seating` have one function for each step on a word,
 //! each use of a slot, and each move of records.
-ghost use Rattle.std.specs.Prelude.{◌≡◌, ◌+◌, [], Some, IfOk, IsSome};
-ghost use Rattle.std.specs.List.{All};
+ghost use Rattle.std.specs.{Prelude.{◌≡◌, ◌+◌, [], Some, IfOk, IsSome}, List.{All}};
 ghost use Rattle.std.specs.Slots.{slots_items, slots_len, IsFull};
 ghost use Rattle.atomic_table.specs.Table.{Final, Seen};
-ghost use Rattle.amoebot_state.specs.Configs.{bot_at};
-ghost use Rattle.amoebot_state.specs.Known.{is_wall_cell};
-ghost use Rattle.claim_core.specs.Cells.{number};
-ghost use Rattle.claim_core.specs.Soundness.{IsSetup};
-ghost use Rattle.claim_rule.specs.Manners.{slot_count};
-ghost use Rattle.claim_rule.specs.Views.{field_terms, setup_of_terms};
-ghost use Rattle.claim_rule.specs.Stands.{KeepsRule, first_view};
-ghost use Rattle.claim_rule.specs.Opened.{AreSlotsAtFirst, first_words};
+ghost use Rattle.amoebot_state.specs.{Configs.{bot_at}, Known.{is_wall_cell}};
+ghost use Rattle.claim_core.specs.{Cells.{number}, Soundness.{IsSetup}};
+ghost use Rattle.claim_rule.specs.{Manners.{slot_count}, Views.{field_terms, setup_of_terms}};
+ghost use Rattle.claim_rule.specs.{Stands.{KeepsRule, first_view}, Opened.{AreSlotsAtFirst, first_words}};
 
 mod nodes;
 mod seating;
@@ -41,8 +36,7 @@ pub struct Field<'d, D: Decider, W: Manner = ByJournal> {
 }
 
 impl<'d, D: Decider, W: Manner> Model for Field<'d, D, W> {
-    ghost use Rattle.claim_rule.specs.Tokens.{FieldOf, IsField};
-    ghost use Rattle.claim_rule.specs.Views.{field_terms};
+    ghost use Rattle.claim_rule.specs.{Tokens.{FieldOf, IsField}, Views.{field_terms}};
 
     ghost Value = { FieldOf D };
 

@@ -1,7 +1,6 @@
 ghost use Rattle.std.specs.Prelude.{◌≡◌, ◌≢◌, ℕ, ◌<◌, ◌≤◌, [], length};
 ghost use Rattle.claim_core.specs.Limits.{most_turns};
-ghost use Rattle.claim_rule.specs.Plays.{about, released_caller, occ_in};
-ghost use Rattle.claim_rule.specs.Tokens.{IsOf, doing, goes};
+ghost use Rattle.claim_rule.specs.{Plays.{about, released_caller, occ_in}, Tokens.{IsOf, doing, goes}};
 ghost use Rattle.claim_rule.specs.Words.{node_word, word_tag, word_occ, word_stamp};
 
 use crate::activation::Activation;

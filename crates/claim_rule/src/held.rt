@@ -1,11 +1,8 @@
 ghost use Rattle.std.specs.Prelude.{◌≡◌, ◌<◌, ◌≤◌, length, Some, IfOk, IfErr};
-ghost use Rattle.amoebot_state.specs.declared.cell.Cell.{Cell};
+ghost use Rattle.amoebot_state.specs.{declared.cell.Cell.{Cell}, Limits.{most_cells}};
 ghost use Rattle.amoebot_state.specs.declared.cell.CellName.TheVariants as name;
-ghost use Rattle.amoebot_state.specs.Limits.{most_cells};
-ghost use Rattle.claim_core.specs.declared.state.Phase.TheVariants.{Refusing};
-ghost use Rattle.claim_core.specs.Machine.{caller_with_cell};
-ghost use Rattle.claim_rule.specs.Manners.{by_journal};
-ghost use Rattle.claim_rule.specs.Plays.{IsOthers, about, bot_in};
+ghost use Rattle.claim_core.specs.{declared.state.Phase.TheVariants.{Refusing}, Machine.{caller_with_cell}};
+ghost use Rattle.claim_rule.specs.{Manners.{by_journal}, Plays.{IsOthers, about, bot_in}};
 ghost use Rattle.claim_rule.specs.Tokens.{IsOf, number_in, doing, goes, next_in};
 
 use crate::activation::Activation;
@@ -27,7 +24,8 @@ pub struct Held<D: Decider, W: Manner = ByJournal> {
 
 impl<D: Decider, W: Manner> Model for Held<D, W> {
     ghost use Rattle.claim_rule.specs.Plays.{about};
-    ghost use Rattle.claim_rule.specs.Tokens.{Token, IsClaiming, KeepsActivation, KnowsTurn, KnowsWalls, token_in, cells_in};
+    ghost use Rattle.claim_rule.specs.Tokens.{Token, IsClaiming, KeepsActivation, KnowsTurn, KnowsWalls};
+    ghost use Rattle.claim_rule.specs.Tokens.{token_in, cells_in};
 
     ghost Value = { Token D };
 

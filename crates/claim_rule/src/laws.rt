@@ -1,7 +1,8 @@
 //! Laws of the rule.
 ghost use Rattle.claim_rule.specs.Manners.{CommitWay};
-ghost use Rattle.claim_rule.specs.Laws.{OpeningStands, SplitChangesNothing, JoinChangesNothing, FoundIsShown, StateIsDetermined};
-ghost use Rattle.claim_rule.specs.Laws.{FieldEndsOneWay, FieldEndsSound, FieldEndsRight, EndedFieldIsReached, EndedTicketsAreReached};
+ghost use Rattle.claim_rule.specs.Laws.{OpeningStands, SplitChangesNothing, JoinChangesNothing, FoundIsShown};
+ghost use Rattle.claim_rule.specs.Laws.{StateIsDetermined, FieldEndsOneWay, FieldEndsSound, FieldEndsRight};
+ghost use Rattle.claim_rule.specs.Laws.{EndedFieldIsReached, EndedTicketsAreReached};
 
 use amoebot_state::Decider;
 

@@ -1,13 +1,10 @@
 //! How a field begins.
-ghost use Rattle.std.specs.Prelude.{◌≡◌, ◌≤◌, [], map, length, IfOk, IsSome, Ok};
-ghost use Rattle.std.specs.List.{All};
+ghost use Rattle.std.specs.{Prelude.{◌≡◌, ◌≤◌, [], map, length, IfOk, IsSome, Ok}, List.{All}};
 ghost use Rattle.amoebot_state.specs.Configs.{bot_at};
-ghost use Rattle.claim_rule.specs.Manners.{by_journal, by_ticket};
-ghost use Rattle.claim_core.specs.Cells.{values_of};
-ghost use Rattle.claim_rule.specs.declared.views.Slot.TheVariants as filling;
-ghost use Rattle.claim_rule.specs.Views.{field_terms};
-ghost use Rattle.claim_rule.specs.Stands.{first_view};
+ghost use Rattle.claim_rule.specs.{Manners.{by_journal, by_ticket}, Views.{field_terms}, Stands.{first_view}};
 ghost use Rattle.claim_rule.specs.Opened.{AreFirstSlots, first_seats, first_words};
+ghost use Rattle.claim_rule.specs.declared.views.Slot.TheVariants as filling;
+ghost use Rattle.claim_core.specs.Cells.{values_of};
 
 use crate::activation::Room;
 use crate::field::Field;

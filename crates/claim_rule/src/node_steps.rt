@@ -3,11 +3,9 @@
 ghost use Rattle.std.specs.Prelude.{◌≡◌, ◌<◌, ◌≤◌, Some, IfOk, IfErr};
 ghost use Rattle.amoebot_state.specs.declared.cell.Cell.TheVariants as cell;
 ghost use Rattle.amoebot_state.specs.declared.cell.CellName.TheVariants as name;
-ghost use Rattle.claim_core.specs.declared.state.Phase.TheVariants.{Refusing};
-ghost use Rattle.claim_core.specs.Limits.{most_turns};
+ghost use Rattle.claim_core.specs.{declared.state.Phase.TheVariants.{Refusing}, Limits.{most_turns}};
 ghost use Rattle.claim_core.specs.Machine.{caller_with_cell};
-ghost use Rattle.claim_rule.specs.Manners.{by_journal};
-ghost use Rattle.claim_rule.specs.Plays.{IsOthers, about};
+ghost use Rattle.claim_rule.specs.{Manners.{by_journal}, Plays.{IsOthers, about}};
 ghost use Rattle.claim_rule.specs.Tokens.{IsOf, number_in, doing, goes, next_in};
 
 use crate::activation::Activation;
@@ -37,10 +35,9 @@ impl<D: Decider, W: Manner> Model for Noted<D, W> {
     ghost use Rattle.std.specs.Prelude.{◌≡◌, Some};
     ghost use Rattle.amoebot_state.specs.declared.cell.CellName.TheVariants as name;
     ghost use Rattle.claim_core.specs.Cells.{number};
-    ghost use Rattle.claim_rule.specs.Words.{word_occ, word_stamp};
-    ghost use Rattle.claim_rule.specs.Manners.{by_journal};
-    ghost use Rattle.claim_rule.specs.Plays.{about};
-    ghost use Rattle.claim_rule.specs.Tokens.{NotedOf, IsNoting, KnowsTurn, KnowsWalls, frame_of, token_in, cells_in, notes_in};
+    ghost use Rattle.claim_rule.specs.{Words.{word_occ, word_stamp}, Manners.{by_journal}, Plays.{about}};
+    ghost use Rattle.claim_rule.specs.Tokens.{NotedOf, IsNoting, KnowsTurn, KnowsWalls, frame_of, token_in};
+    ghost use Rattle.claim_rule.specs.Tokens.{cells_in, notes_in};
 
     ghost Value = { NotedOf D };
 

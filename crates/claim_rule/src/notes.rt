@@ -1,8 +1,7 @@
 ghost use Rattle.std.specs.Prelude.{◌≡◌, ◌<◌, ◌∷◌, ◌++◌, [], length};
 ghost use Rattle.tri_lattice.specs.declared.node.Node.{Node};
 ghost use Rattle.amoebot_state.specs.Limits.{most_cells};
-ghost use Rattle.claim_rule.specs.Words.{word_tag};
-ghost use Rattle.claim_rule.specs.Plays.{note_of};
+ghost use Rattle.claim_rule.specs.{Words.{word_tag}, Plays.{note_of}};
 
 use amoebot_state::MOST_CELLS;
 use std::marker::Model;
@@ -18,12 +17,9 @@ pub(crate) struct Notes {
 }
 
 impl Model for Notes {
-    ghost use Rattle.std.specs.Prelude.{List, ◌≡◌, ◌≤◌, map, take};
-    ghost use Rattle.std.specs.List.{All};
+    ghost use Rattle.std.specs.{Prelude.{List, ◌≡◌, ◌≤◌, map, take}, List.{All}};
     ghost use Rattle.amoebot_state.specs.Limits.{most_cells};
-    ghost use Rattle.claim_rule.specs.declared.views.Note.{Note};
-    ghost use Rattle.claim_rule.specs.Words.{word_tag};
-    ghost use Rattle.claim_rule.specs.Plays.{note_of};
+    ghost use Rattle.claim_rule.specs.{declared.views.Note.{Note}, Words.{word_tag}, Plays.{note_of}};
 
     ghost Value = { List Note };
 

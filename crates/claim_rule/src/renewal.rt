@@ -1,7 +1,6 @@
 //! The values of held cells once a patch is committed.
 ghost use Rattle.std.specs.Prelude.{◌≡◌, map};
-ghost use Rattle.claim_core.specs.Cells.{given, name_eq};
-ghost use Rattle.claim_core.specs.Machine.{patched_pair};
+ghost use Rattle.claim_core.specs.{Cells.{given, name_eq}, Machine.{patched_pair}};
 
 use amoebot_state::{Cell, CellName};
 

@@ -1,6 +1,5 @@
 //! The rule, and what each step tells the seat that makes it. These types are for the proofs alone.
-ghost use Rattle.claim_rule.specs.Views.{field_terms};
-ghost use Rattle.claim_rule.specs.Stands.{KeepsRule, first_view};
+ghost use Rattle.claim_rule.specs.{Views.{field_terms}, Stands.{KeepsRule, first_view}};
 ghost use Rattle.claim_rule.specs.Plays.{Claims, Releases, LooksAt, TriesNode, ReleasesNode, ReadsLength};
 ghost use Rattle.claim_rule.specs.Commits.{TriesJournal, stored, drew};
 

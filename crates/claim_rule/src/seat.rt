@@ -18,8 +18,7 @@ pub struct Seat<D: Decider, W: Manner = ByJournal> {
 }
 
 impl<D: Decider, W: Manner> Model for Seat<D, W> {
-    ghost use Rattle.claim_rule.specs.Views.{seen};
-    ghost use Rattle.claim_rule.specs.Tokens.{Token, IsSeat, frame_of};
+    ghost use Rattle.claim_rule.specs.{Views.{seen}, Tokens.{Token, IsSeat, frame_of}};
 
     ghost Value = { Token D };
 

@@ -2,10 +2,9 @@
 //! leads to a table that stands for the state after its caller's next step;
 //! a free word of a node that is found and not won leaves the state as it was.
 //! There is such a step, and each that keeps the rule and tells what it has to tell is one.
-ghost use Rattle.claim_rule.specs.Manners.{CommitWay};
-ghost use Rattle.claim_rule.specs.declared.views.Terms.{Terms};
-ghost use Rattle.claim_rule.specs.Nexts.{ClaimIsNext, ReleaseIsNext, LookIsNext, TakeIsNext, CommitIsNext, DrawIsNext};
-ghost use Rattle.claim_rule.specs.Nexts.{NodeLookIsNext, NodeClaimIsNext, NodeReleaseIsNext};
+ghost use Rattle.claim_rule.specs.{Manners.{CommitWay}, declared.views.Terms.{Terms}};
+ghost use Rattle.claim_rule.specs.Nexts.{ClaimIsNext, ReleaseIsNext, LookIsNext, TakeIsNext, CommitIsNext};
+ghost use Rattle.claim_rule.specs.Nexts.{DrawIsNext, NodeLookIsNext, NodeClaimIsNext, NodeReleaseIsNext};
 
 use amoebot_state::Decider;
 

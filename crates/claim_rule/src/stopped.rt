@@ -1,6 +1,5 @@
 ghost use Rattle.std.specs.Prelude.{◌≡◌, ◌≤◌};
-ghost use Rattle.claim_core.specs.declared.state.Phase.TheVariants.{Refusing};
-ghost use Rattle.claim_core.specs.Limits.{most_turns};
+ghost use Rattle.claim_core.specs.{declared.state.Phase.TheVariants.{Refusing}, Limits.{most_turns}};
 ghost use Rattle.claim_core.specs.Tags.{tag_caller, tag_turn, tag_bot};
 ghost use Rattle.claim_rule.specs.Plays.{about, marked_at};
 ghost use Rattle.claim_rule.specs.Tokens.{IsOf, number_in, doing, goes, refused_of};

@@ -1,9 +1,7 @@
 //! What is answered, and what is prepared for workers.
 
 ghost use Rattle.std.specs.Prelude.{◌≡◌, IfOk, None};
-ghost use Rattle.commands.specs.Answers.{with_text};
-ghost use Rattle.commands.specs.Lines.{refusal_line};
-ghost use Rattle.commands.specs.Journals.{differs_line};
+ghost use Rattle.commands.specs.{Answers.{with_text}, Lines.{refusal_line}, Journals.{differs_line}};
 ghost use Rattle.commands.specs.Replay.{agrees_line};
 
 use crate::replay::{print_agrees, print_differs};

@@ -1,12 +1,9 @@
 //! The command `check`: the program of a document is printed.
 
 ghost use Rattle.std.specs.Prelude.{◌≡◌, IfOk, IsSome, Some};
-ghost use Rattle.shape_files.specs.Fitting.{Fits};
-ghost use Rattle.shape_files.specs.Views.{contents};
-ghost use Rattle.commands.specs.Commands.{form_of};
-ghost use Rattle.commands.specs.Check.{check_text, CheckOutcome};
-ghost use Rattle.commands.specs.ReportLaws.{CanonMeansTheSame};
-ghost use Rattle.commands.specs.Answers.{IsAnswerOf};
+ghost use Rattle.shape_files.specs.{Fitting.{Fits}, Views.{contents}};
+ghost use Rattle.commands.specs.{Commands.{form_of}, Check.{check_text, CheckOutcome}};
+ghost use Rattle.commands.specs.{ReportLaws.{CanonMeansTheSame}, Answers.{IsAnswerOf}};
 
 use crate::answer::{Answer, done};
 use crate::lines::put_number;

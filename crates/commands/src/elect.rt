@@ -1,20 +1,18 @@
 //! The command `elect`: the candidates and the leader at the end of an election.
 
-ghost use Rattle.std.specs.Prelude.{◌≡◌, ◌≢◌, ◌<◌, length, IfOk, IfErr, IfSome, MatchResult, OnOk, ◌∷◌, ◌++◌, [], codes, None};
-ghost use Rattle.std.specs.List.{All};
+ghost use Rattle.std.specs.Prelude.{◌≡◌, ◌≢◌, ◌<◌, length, IfOk, IfErr, IfSome, MatchResult, OnOk, ◌∷◌, ◌++◌};
+ghost use Rattle.std.specs.{Prelude.{[], codes, None}, List.{All}};
 ghost use Rattle.serial_model.specs.Replays.{AreCountable};
 ghost use Rattle.shape_checks.specs.Values.{value_count};
 ghost use Rattle.action_meaning.specs.Verdicts.{verdict_shown};
 ghost use Rattle.election_law.specs.Elections.{cand_var, leader_of};
-ghost use Rattle.shape_files.specs.Fitting.{Fits};
-ghost use Rattle.shape_files.specs.Views.{contents};
+ghost use Rattle.shape_files.specs.{Fitting.{Fits}, Views.{contents}};
 ghost use Rattle.commands.specs.Journals.{AgreesIn, DiffersAt, EntriesOutcome, differs_line};
-ghost use Rattle.commands.specs.Commands.{form_of};
-ghost use Rattle.commands.specs.Lines.{bad_start, refusal_line};
-ghost use Rattle.text_tokens.specs.Lines.{line_text};
+ghost use Rattle.commands.specs.{Commands.{form_of}, Lines.{bad_start, refusal_line}};
 ghost use Rattle.commands.specs.Elect.{election_text, leader_word, ElectOutcome, elected_text};
 ghost use Rattle.commands.specs.ElectLaws.{ElectEndsAsReplay, ElectionsAreWon};
 ghost use Rattle.commands.specs.Answers.{IsAnswerOf, with_text};
+ghost use Rattle.text_tokens.specs.Lines.{line_text};
 
 use crate::answer::{Answer, differ, done, refuse};
 use crate::lines::{put_number, put_word};

@@ -1,16 +1,11 @@
 //! The command `interleave`: the steps of a document's schedule are made.
 
-ghost use Rattle.std.specs.Prelude.{IfOk, ◌≡◌, ◌<◌, length, reverse};
-ghost use Rattle.shape_files.specs.Fitting.{Fits};
-ghost use Rattle.shape_files.specs.Views.{contents};
-ghost use Rattle.commands.specs.Commands.{form_of};
-ghost use Rattle.std.specs.List.{All};
-ghost use Rattle.claim_core.specs.Turns.{HaveBots};
-ghost use Rattle.claim_core.specs.Machine.{after};
-ghost use Rattle.claim_core.specs.Cores.{opening_core, setup_of};
-ghost use Rattle.commands.specs.Interleave.{IsInterleaveReport, InterleaveOutcome};
+ghost use Rattle.std.specs.{Prelude.{IfOk, ◌≡◌, ◌<◌, length, reverse}, List.{All}};
+ghost use Rattle.shape_files.specs.{Fitting.{Fits}, Views.{contents}};
+ghost use Rattle.commands.specs.{Commands.{form_of}, Interleave.{IsInterleaveReport, InterleaveOutcome}};
 ghost use Rattle.commands.specs.ReportLaws.{InterleaveReportIsOne, ScheduleHasOneReport};
 ghost use Rattle.commands.specs.Answers.{IsAnswerOf};
+ghost use Rattle.claim_core.specs.{Turns.{HaveBots}, Machine.{after}, Cores.{opening_core, setup_of}};
 
 use crate::answer::Answer;
 use crate::report::answer_report;

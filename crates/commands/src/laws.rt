@@ -1,11 +1,10 @@
 //! What holds of the commands. The functions do nothing: their clauses are the laws.
 
-ghost use Rattle.commands.specs.Laws.{DocumentsHaveOutcomes, OwedIsOne, OwedIsSome, PreparedIsOne, TaskIsOne, TellingIsOne, ReportsAreOfDocuments, ReportsAreOfSamples, ReportsAreOfTurns};
-ghost use Rattle.commands.specs.Examples.{SmallAnswers};
-ghost use Rattle.commands.specs.ExplainExamples.{SmallExplanations};
-ghost use Rattle.commands.specs.ElectExamples.{SmallElections};
-ghost use Rattle.commands.specs.ReportLaws.{GoodIsFew, GoodStaysConnected};
-ghost use Rattle.commands.specs.WorkExamples.{SmallCommands};
+ghost use Rattle.commands.specs.Laws.{DocumentsHaveOutcomes, OwedIsOne, OwedIsSome, PreparedIsOne, TaskIsOne};
+ghost use Rattle.commands.specs.Laws.{TellingIsOne, ReportsAreOfDocuments, ReportsAreOfSamples};
+ghost use Rattle.commands.specs.{Laws.{ReportsAreOfTurns}, Examples.{SmallAnswers}};
+ghost use Rattle.commands.specs.{ExplainExamples.{SmallExplanations}, ElectExamples.{SmallElections}};
+ghost use Rattle.commands.specs.{ReportLaws.{GoodIsFew, GoodStaysConnected}, WorkExamples.{SmallCommands}};
 
 use crate::interleave::interleave_report_is_one;
 use crate::measure::measure_text_is_one;

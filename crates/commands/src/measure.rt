@@ -1,13 +1,9 @@
 //! The command `measure`: the last shape of a document is measured.
 
-ghost use Rattle.std.specs.Prelude.{◌≡◌, IfOk, IsSome, Some};
-ghost use Rattle.std.specs.Option.{option_or};
-ghost use Rattle.shape_files.specs.Fitting.{Fits};
-ghost use Rattle.shape_files.specs.Views.{contents};
-ghost use Rattle.commands.specs.Commands.{form_of};
-ghost use Rattle.commands.specs.Measure.{IsMeasureText, MeasureOutcome};
-ghost use Rattle.commands.specs.ReportLaws.{MeasureTextIsOne};
-ghost use Rattle.commands.specs.Answers.{IsAnswerOf};
+ghost use Rattle.std.specs.{Prelude.{◌≡◌, IfOk, IsSome, Some}, Option.{option_or}};
+ghost use Rattle.shape_files.specs.{Fitting.{Fits}, Views.{contents}};
+ghost use Rattle.commands.specs.{Commands.{form_of}, Measure.{IsMeasureText, MeasureOutcome}};
+ghost use Rattle.commands.specs.{ReportLaws.{MeasureTextIsOne}, Answers.{IsAnswerOf}};
 
 use crate::answer::{Answer, done};
 use crate::lines::{put_answer, put_number};

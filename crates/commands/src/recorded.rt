@@ -1,8 +1,7 @@
 //! What a document has of a run that it records, as the commands that look at its journal take it.
 
 ghost use Rattle.std.specs.Prelude.{◌≡◌, length, IsSome, None};
-ghost use Rattle.shape_files.specs.Fitting.{Fits};
-ghost use Rattle.shape_files.specs.Views.{contents};
+ghost use Rattle.shape_files.specs.{Fitting.{Fits}, Views.{contents}};
 ghost use Rattle.commands.specs.Commands.{form_of};
 ghost use Rattle.commands.specs.Recorded.{HasItsJournal, IsJournalIn, IsOfBots, full_of, IsRecordOf};
 

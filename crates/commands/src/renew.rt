@@ -1,15 +1,10 @@
 //! The command `renew`: the journal of a document is written with the old values.
 
-ghost use Rattle.std.specs.Prelude.{◌≡◌, ◌<◌, length, IfOk, map, MatchResult, ◌≤◌};
-ghost use Rattle.std.specs.List.{All};
-ghost use Rattle.amoebot_state.specs.Steps.{plain_entry};
-ghost use Rattle.serial_model.specs.Forms.{full_entry};
-ghost use Rattle.serial_model.specs.Replays.{AreCountable};
-ghost use Rattle.shape_files.specs.Fitting.{Fits};
-ghost use Rattle.shape_files.specs.Views.{contents};
-ghost use Rattle.commands.specs.Journals.{Agrees, DiffersAt, EntriesOutcome};
-ghost use Rattle.commands.specs.Commands.{form_of};
-ghost use Rattle.amoebot_state.specs.Limits.{most_vars};
+ghost use Rattle.std.specs.{Prelude.{◌≡◌, ◌<◌, length, IfOk, map, MatchResult, ◌≤◌}, List.{All}};
+ghost use Rattle.amoebot_state.specs.{Steps.{plain_entry}, Limits.{most_vars}};
+ghost use Rattle.serial_model.specs.{Forms.{full_entry}, Replays.{AreCountable}};
+ghost use Rattle.shape_files.specs.{Fitting.{Fits}, Views.{contents}};
+ghost use Rattle.commands.specs.{Journals.{Agrees, DiffersAt, EntriesOutcome}, Commands.{form_of}};
 ghost use Rattle.commands.specs.Renew.{renewed_text, RenewOutcome};
 ghost use Rattle.commands.specs.RenewLaws.{RenewEndsAsReplay, RenewedIsReplayed, RenewedStays};
 ghost use Rattle.commands.specs.Answers.{IsAnswerOf, with_text};

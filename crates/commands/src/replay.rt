@@ -1,15 +1,13 @@
 //! The command `replay`: the journal of a document is compared with a run.
 
-ghost use Rattle.std.specs.Prelude.{◌≡◌, ◌<◌, length, IfOk, IfErr, OnOk};
-ghost use Rattle.std.specs.List.{All};
+ghost use Rattle.std.specs.{Prelude.{◌≡◌, ◌<◌, length, IfOk, IfErr, OnOk}, List.{All}};
 ghost use Rattle.serial_model.specs.Replays.{AreCountable};
-ghost use Rattle.shape_files.specs.Fitting.{Fits};
-ghost use Rattle.shape_files.specs.Views.{contents};
+ghost use Rattle.shape_files.specs.{Fitting.{Fits}, Views.{contents}};
 ghost use Rattle.commands.specs.Journals.{AgreesIn, DiffersAt, differs_line, EntriesOutcome};
-ghost use Rattle.commands.specs.Commands.{form_of};
-ghost use Rattle.commands.specs.Replay.{agrees_line, ReplayOutcome};
+ghost use Rattle.commands.specs.{Commands.{form_of}, Replay.{agrees_line, ReplayOutcome}};
 ghost use Rattle.commands.specs.ReportLaws.{ReplayIsDecided};
-ghost use Rattle.commands.specs.ReplayLaws.{InterleaveTextsAreReplayed, RunTextsAreReplayed, TicketTextsAreReplayed, WhatIsOwedIsReplayed};
+ghost use Rattle.commands.specs.ReplayLaws.{InterleaveTextsAreReplayed, RunTextsAreReplayed};
+ghost use Rattle.commands.specs.ReplayLaws.{TicketTextsAreReplayed, WhatIsOwedIsReplayed};
 ghost use Rattle.commands.specs.Answers.{IsAnswerOf};
 ghost use Rattle.action_meaning.specs.Verdicts.{verdict_shown};
 

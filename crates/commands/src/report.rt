@@ -2,11 +2,10 @@
 
 ghost use Rattle.std.specs.Prelude.{◌≡◌, ◌≤◌, ◌++◌, length, IfOk, OnOk};
 ghost use Rattle.amoebot_state.specs.Limits.{most_vars};
-ghost use Rattle.commands.specs.Reports.{report_text};
+ghost use Rattle.commands.specs.{Reports.{report_text}, Answers.{IsCounted, TellsReport, with_report}};
 ghost use Rattle.journal_text.specs.Texts.{journal_of_version};
 ghost use Rattle.claim_core.specs.Good.{Good};
 ghost use Rattle.action_meaning.specs.Verdicts.{verdict_shown};
-ghost use Rattle.commands.specs.Answers.{IsCounted, TellsReport, with_report};
 
 use crate::answer::{Answer, Telling};
 use crate::sample::tell_sample;

@@ -1,14 +1,10 @@
 //! The command `rewind`: the shape at a place of a journal, seen from the final shape.
 
-ghost use Rattle.std.specs.Prelude.{◌≡◌, ◌<◌, ◌≤◌, IfOk, length, codes};
-ghost use Rattle.std.specs.List.{All};
+ghost use Rattle.std.specs.{Prelude.{◌≡◌, ◌<◌, ◌≤◌, IfOk, length, codes}, List.{All}};
 ghost use Rattle.serial_model.specs.Replays.{AreCountable};
-ghost use Rattle.shape_files.specs.Fitting.{Fits};
-ghost use Rattle.shape_files.specs.Views.{contents};
-ghost use Rattle.commands.specs.Commands.{form_of, least_for};
-ghost use Rattle.commands.specs.Lines.{no_such_place};
-ghost use Rattle.commands.specs.RewindLaws.{RewindUndoesReplay};
-ghost use Rattle.commands.specs.Answers.{IsAnswerOf, with_text};
+ghost use Rattle.shape_files.specs.{Fitting.{Fits}, Views.{contents}};
+ghost use Rattle.commands.specs.{Commands.{form_of, least_for}, Lines.{no_such_place}};
+ghost use Rattle.commands.specs.{RewindLaws.{RewindUndoesReplay}, Answers.{IsAnswerOf, with_text}};
 ghost use Rattle.commands.specs.Rewind.{RewindOutcome};
 ghost use Rattle.shape_text.specs.Texts.{shape_text};
 

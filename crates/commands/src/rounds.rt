@@ -1,15 +1,11 @@
 //! The command `rounds`: the asynchronous rounds of a document's journal are counted.
 
-ghost use Rattle.std.specs.Prelude.{◌<◌, length, IfOk, MatchResult, ◌≡◌};
-ghost use Rattle.std.specs.List.{All};
+ghost use Rattle.std.specs.{Prelude.{◌<◌, length, IfOk, MatchResult, ◌≡◌}, List.{All}};
 ghost use Rattle.serial_model.specs.Replays.{AreCountable};
-ghost use Rattle.shape_files.specs.Fitting.{Fits};
-ghost use Rattle.shape_files.specs.Views.{contents};
-ghost use Rattle.commands.specs.Journals.{DiffersAt, EntriesOutcome};
-ghost use Rattle.commands.specs.Commands.{form_of};
+ghost use Rattle.shape_files.specs.{Fitting.{Fits}, Views.{contents}};
+ghost use Rattle.commands.specs.{Journals.{DiffersAt, EntriesOutcome}, Commands.{form_of}};
 ghost use Rattle.commands.specs.Rounds.{CountedIn, rounds_text, RoundsOutcome, IsRoundsText};
-ghost use Rattle.commands.specs.ReportLaws.{RoundsAreDecided};
-ghost use Rattle.commands.specs.RoundsLaws.{RoundsEndAsReplay};
+ghost use Rattle.commands.specs.{ReportLaws.{RoundsAreDecided}, RoundsLaws.{RoundsEndAsReplay}};
 ghost use Rattle.commands.specs.Answers.{IsAnswerOf};
 ghost use Rattle.action_meaning.specs.Verdicts.{verdict_shown};
 

@@ -1,10 +1,7 @@
 //! The command `run`: workers are to run the lists of a document.
 
-ghost use Rattle.shape_files.specs.Fitting.{Fits};
-ghost use Rattle.shape_files.specs.Views.{contents};
-ghost use Rattle.commands.specs.declared.answer.Task.{Task};
-ghost use Rattle.commands.specs.Answers.{IsTaskTo};
-ghost use Rattle.commands.specs.Commands.{form_of};
+ghost use Rattle.shape_files.specs.{Fitting.{Fits}, Views.{contents}};
+ghost use Rattle.commands.specs.{declared.answer.Task.{Task}, Answers.{IsTaskTo}, Commands.{form_of}};
 ghost use Rattle.commands.specs.ReportLaws.{RunReportIsOne};
 
 use crate::answer::{Maker, Prepared, Telling};

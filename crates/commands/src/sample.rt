@@ -1,16 +1,13 @@
 //! The command `sample`: workers are to run the lists of a number's sample.
 
-ghost use Rattle.std.specs.Prelude.{IfOk, Some, ◌≡◌, length, ◌<◌, Decides};
+ghost use Rattle.std.specs.{Prelude.{IfOk, Some, ◌≡◌, length, ◌<◌, Decides}, List.{All}};
 ghost use Rattle.commands.specs.declared.words.Command.TheVariants.{Sample};
-ghost use Rattle.commands.specs.Answers.{IsPrepared, IsCounted, TellsReport};
-ghost use Rattle.commands.specs.Reads.{nothing};
+ghost use Rattle.commands.specs.{Answers.{IsPrepared, IsCounted, TellsReport}, Reads.{nothing}};
+ghost use Rattle.commands.specs.{Journals.{Agrees}, Sample.{IsSampleText, sample_text}};
+ghost use Rattle.commands.specs.ReportLaws.{SampleTextIsOne};
 ghost use Rattle.claim_core.specs.Good.{Good};
 ghost use Rattle.action_meaning.specs.Verdicts.{verdict_shown};
-ghost use Rattle.std.specs.List.{All};
 ghost use Rattle.serial_model.specs.Replays.{AreCountable};
-ghost use Rattle.commands.specs.Journals.{Agrees};
-ghost use Rattle.commands.specs.Sample.{IsSampleText, sample_text};
-ghost use Rattle.commands.specs.ReportLaws.{SampleTextIsOne};
 
 use crate::answer::{Answer, Maker, Prepared, Telling};
 use crate::laws::good_is_few;

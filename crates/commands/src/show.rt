@@ -1,9 +1,7 @@
 //! The command `show`: a shipped program is printed.
 
 ghost use Rattle.std.specs.Prelude.{IfOk, Some};
-ghost use Rattle.commands.specs.declared.words.Command.TheVariants.{Show};
-ghost use Rattle.commands.specs.Owed.{IsOwed};
-ghost use Rattle.commands.specs.Reads.{nothing};
+ghost use Rattle.commands.specs.{declared.words.Command.TheVariants.{Show}, Owed.{IsOwed}, Reads.{nothing}};
 
 use crate::answer::{Answer, done};
 use crate::check::print_check;

@@ -1,7 +1,6 @@
 ghost use Rattle.std.specs.Prelude.{◌≡◌, Some};
 ghost use Rattle.commands.specs.declared.words.Command.TheVariants.{Document};
-ghost use Rattle.commands.specs.Commands.{form_of, least_for, limit_for};
-ghost use Rattle.commands.specs.Words.{word_of};
+ghost use Rattle.commands.specs.{Commands.{form_of, least_for, limit_for}, Words.{word_of}};
 
 use crate::words::DocumentCommand;
 use shape_files::Form;

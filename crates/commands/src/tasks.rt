@@ -1,15 +1,11 @@
 //! What is to be done for a whole input of a command that reads a document.
 
 ghost use Rattle.std.specs.Prelude.{◌≤◌, IfOk};
-ghost use Rattle.text_tokens.specs.declared.refusal.RefusalKind.TheVariants.{Trailing};
-ghost use Rattle.text_tokens.specs.Steps.{ReadsInput};
+ghost use Rattle.text_tokens.specs.{declared.refusal.RefusalKind.TheVariants.{Trailing}, Steps.{ReadsInput}};
 ghost use Rattle.text_tokens.specs.Text.{IsCountable};
-ghost use Rattle.shape_files.specs.Documents.{IsDocumentFrom};
-ghost use Rattle.shape_files.specs.Fitting.{Fits};
-ghost use Rattle.shape_files.specs.Frame.{least_version};
+ghost use Rattle.shape_files.specs.{Documents.{IsDocumentFrom}, Fitting.{Fits}, Frame.{least_version}};
 ghost use Rattle.shape_files.specs.Views.{contents};
-ghost use Rattle.commands.specs.Answers.{IsTaskOf, IsTaskTo};
-ghost use Rattle.commands.specs.Commands.{form_of, least_for};
+ghost use Rattle.commands.specs.{Answers.{IsTaskOf, IsTaskTo}, Commands.{form_of, least_for}};
 
 use crate::answer::{Task, refuse};
 use crate::check::answer_check;

@@ -1,11 +1,8 @@
 //! The command `tickets`: workers are to run the lists of a document,
 //! and no commit waits for another.
 
-ghost use Rattle.shape_files.specs.Fitting.{Fits};
-ghost use Rattle.shape_files.specs.Views.{contents};
-ghost use Rattle.commands.specs.declared.answer.Task.{Task};
-ghost use Rattle.commands.specs.Answers.{IsTaskTo};
-ghost use Rattle.commands.specs.Commands.{form_of};
+ghost use Rattle.shape_files.specs.{Fitting.{Fits}, Views.{contents}};
+ghost use Rattle.commands.specs.{declared.answer.Task.{Task}, Answers.{IsTaskTo}, Commands.{form_of}};
 
 use crate::answer::{Maker, Prepared};
 use crate::run::prepare;

@@ -1,13 +1,13 @@
 //! The words with which the program is called, and what they ask for.
 
-ghost use Rattle.std.specs.Prelude.{◌≡◌, map, codes, option_and_then, true, IfOk, MatchResult, Ok, Some, None, ◌≢◌};
-ghost use Rattle.std.specs.Char.{is_ascii_digit};
-ghost use Rattle.std.specs.List.{list_all, list_any};
+ghost use Rattle.std.specs.Prelude.{◌≡◌, map, codes, option_and_then, true, IfOk, MatchResult, Ok, Some};
+ghost use Rattle.std.specs.{Prelude.{None, ◌≢◌}, Char.{is_ascii_digit}, List.{list_all, list_any}};
 ghost use Rattle.std.specs.String.{string_bytes};
-ghost use Rattle.commands.specs.Words.{are_few_digits, command_of, document_in, documents, number_of, rewind_to, shipped, show_in};
+ghost use Rattle.commands.specs.Words.{are_few_digits, command_of, document_in, documents, number_of};
+ghost use Rattle.commands.specs.Words.{rewind_to, shipped, show_in};
 ghost use Rattle.commands.specs.Syntax.{begins_with_dash, of_subcommand};
-ghost use Rattle.clap.specs.Words.{first_of, found_of, kind_of, rows_of, subcommand_rows_of};
 ghost use Rattle.commands.specs.WordLaws.{CommandIsItsWords, SmallWords};
+ghost use Rattle.clap.specs.Words.{first_of, found_of, kind_of, rows_of, subcommand_rows_of};
 
 use crate::syntax::words_syntax;
 use crate::table::{DOCUMENTS, row_of};

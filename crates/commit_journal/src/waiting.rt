@@ -1,7 +1,5 @@
 ghost use Rattle.std.specs.Prelude.{◌≡◌, IfOk, IfErr};
-ghost use Rattle.claim_rule.specs.Tokens.{IsOf};
-ghost use Rattle.claim_rule.specs.Commits.{IsTakenElsewhere};
-ghost use Rattle.claim_rule.specs.Settling.{HasStored, IsToTake};
+ghost use Rattle.claim_rule.specs.{Tokens.{IsOf}, Commits.{IsTakenElsewhere}, Settling.{HasStored, IsToTake}};
 
 use amoebot_state::{Change, Decider};
 use claim_rule::{Claimed, Field, Receipt, Settled, store, take};

@@ -2,14 +2,13 @@
 
 ghost use Rattle.std.specs.Prelude.{◌≡◌, ◌⊎◌, ◌<◌, ◌+◌, ◌^◌, length, IfOk, IfErr, OnOk, OnErr};
 ghost use Rattle.amoebot_state.specs.Steps.{Step};
-ghost use Rattle.serial_model.specs.Forms.{full_entry};
-ghost use Rattle.serial_model.specs.Replays.{IsNoStep, StepIn};
+ghost use Rattle.serial_model.specs.{Forms.{full_entry}, Replays.{IsNoStep, StepIn}};
 ghost use Rattle.shape_checks.specs.Values.{value_count};
 ghost use Rattle.action_check.specs.Maxes.{maxes_of};
 ghost use Rattle.action_meaning.specs.Verdicts.{verdict_shown};
-ghost use Rattle.election_law.specs.declared.refusal.ElectRefusal.TheVariants as refusal;
 ghost use Rattle.election_law.specs.Elections.{IsErosion, IsReadyStart, IsElected, cand_var, leader_of};
 ghost use Rattle.election_law.specs.Starts.{AreBotsReady, IsFirstUnready};
+ghost use Rattle.election_law.specs.declared.refusal.ElectRefusal.TheVariants as refusal;
 
 use crate::leader::first_leader;
 use crate::refusal::ElectRefusal;

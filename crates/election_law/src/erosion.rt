@@ -1,12 +1,15 @@
 //! Whether a program is `erosion`, lines and guard aside.
 
 ghost use Rattle.std.specs.Prelude.{◌≡◌, ◌≢◌, Decides, IfSome, IfNone, codes, map};
-ghost use Rattle.action_tree.specs.Lines.{bare_action, bare_guard, bare_guards, bare_port, bare_sum, bare_stmts, bare_term, bare_var, bare_move};
+ghost use Rattle.action_tree.specs.Lines.{bare_action, bare_guard, bare_guards, bare_port, bare_sum};
+ghost use Rattle.action_tree.specs.Lines.{bare_stmts, bare_term, bare_var, bare_move};
 ghost use Rattle.action_tree.specs.Shipped.{erosion, p, some_port, var as variable};
 ghost use Rattle.action_tree.specs.Trees as tree;
 ghost use Rattle.action_tree.specs.Views as view;
 ghost use Rattle.election_law.specs.Elections.{IsErosion};
-ghost use Rattle.election_law.specs.Parts.{asks_cand, cand_of, ends_sum, guard_of_erode, guard_of_lead, last_cand, lone_guard, next_cand, next_port, one_end, only_put, putting};
+ghost use Rattle.election_law.specs.Parts.{asks_cand, cand_of, ends_sum, guard_of_erode, guard_of_lead};
+ghost use Rattle.election_law.specs.Parts.{last_cand, lone_guard, next_cand, next_port, one_end, only_put};
+ghost use Rattle.election_law.specs.Parts.{putting};
 
 use crate::likeness::{
     is_name, is_named_port, is_number, is_number_sum, is_own_comparison, is_put_number,

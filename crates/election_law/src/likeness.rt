@@ -1,7 +1,8 @@
 //! Whether parts of a tree are what they are to be, lines aside. Nothing here takes memory.
 
 ghost use Rattle.std.specs.Prelude.{◌≡◌, ◌≢◌, Decides, IfSome, IfNone, true, false};
-ghost use Rattle.action_tree.specs.Lines.{bare_guard, bare_literal, bare_name, bare_port, bare_stmt, bare_sum, bare_term};
+ghost use Rattle.action_tree.specs.Lines.{bare_guard, bare_literal, bare_name, bare_port, bare_stmt};
+ghost use Rattle.action_tree.specs.Lines.{bare_sum, bare_term};
 ghost use Rattle.action_tree.specs.Shipped.{example_name, literal, own_is, sum_of_term};
 ghost use Rattle.action_tree.specs.Trees as tree;
 ghost use Rattle.action_tree.specs.Views as view;

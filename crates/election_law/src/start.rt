@@ -1,9 +1,9 @@
 //! Whether a world is a start of erosion.
 
 ghost use Rattle.std.specs.Prelude.{◌≡◌, ◌⊎◌, length, OnOk, IfErr, Some, None};
-ghost use Rattle.election_law.specs.declared.refusal.ElectRefusal.TheVariants as refusal;
 ghost use Rattle.election_law.specs.Elections.{IsReadyStart};
 ghost use Rattle.election_law.specs.Starts.{AreBotsReady, AreReadyBelow, IsFirstUnready, bot_unready};
+ghost use Rattle.election_law.specs.declared.refusal.ElectRefusal.TheVariants as refusal;
 
 use crate::leader::LEADER;
 use crate::refusal::ElectRefusal;

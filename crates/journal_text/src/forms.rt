@@ -2,8 +2,7 @@
 
 ghost use Rattle.std.specs.Prelude.{◌≡◌, ◌<◌, ◌∷◌, ◌++◌, ◌&&◌, [], Bool, IsTrue, true, false, length};
 ghost use Rattle.std.specs.Option.{unwrap_or};
-ghost use Rattle.amoebot_state.specs.Limits.{most_pairs};
-ghost use Rattle.amoebot_state.specs.Pairs.{is_alike};
+ghost use Rattle.amoebot_state.specs.{Limits.{most_pairs}, Pairs.{is_alike}};
 ghost use Rattle.journal_text.specs.Journals.{WrittenEntry, entry_by, entry_with, plain_by, with_changes};
 
 use amoebot_state::{Cell, CellName, Entry, Moved, Patch, PlainEntry};

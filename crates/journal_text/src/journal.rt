@@ -1,17 +1,16 @@
 //! The section `journal` read.
 
-ghost use Rattle.std.specs.Prelude.{◌≡◌, ◌≢◌, ◌<◌, ◌≤◌, [], true, false, length, map, option_map, nat_lt, if◌then◌else◌, IfErr, IfOk, IfSome, Ok, Err, Some, None};
-ghost use Rattle.std.specs.Bool.{OnTrue};
+ghost use Rattle.std.specs.Prelude.{◌≡◌, ◌≢◌, ◌<◌, ◌≤◌, [], true, false, length, map, option_map, nat_lt};
+ghost use Rattle.std.specs.{Prelude.{if◌then◌else◌, IfErr, IfOk, IfSome, Ok, Err, Some, None}, Bool.{OnTrue}};
 ghost use Rattle.std.specs.List.{flat_map, list_all};
-ghost use Rattle.text_tokens.specs.Cursor.{next_passes};
-ghost use Rattle.text_tokens.specs.Steps.{Gives, ReadsOf, TellsOf, another};
+ghost use Rattle.text_tokens.specs.{Cursor.{next_passes}, Steps.{Gives, ReadsOf, TellsOf, another}};
 ghost use Rattle.text_tokens.specs.declared.refusal.ReadRefusal.TheVariants.{NoMemory, Refused};
 ghost use Rattle.text_tokens.specs.declared.refusal.RefusalKind.TheVariants.{BadEntry};
-ghost use Rattle.amoebot_state.specs.declared.cell.Cell.TheVariants as cell;
 ghost use Rattle.amoebot_state.specs.Limits.{most_vars, most_pairs};
+ghost use Rattle.amoebot_state.specs.declared.cell.Cell.TheVariants as cell;
 ghost use Rattle.claim_core.specs.Limits.{most_turns};
-ghost use Rattle.journal_text.specs.Journals as spec;
 ghost use Rattle.journal_text.specs.Journals.{IsJournal, IsPlainJournal, WrittenEntry};
+ghost use Rattle.journal_text.specs.Journals as spec;
 ghost use Rattle.journal_text.specs.Readers as reader;
 ghost use Rattle.journal_text.specs.Views as view;
 

@@ -4,12 +4,10 @@
 ghost use Rattle.std.specs.Prelude.{ℕ};
 ghost use Rattle.text_tokens.specs.Lawful.{Exact, IsDecided};
 ghost use Rattle.journal_text.specs.Journals.{IsJournal, IsPlainJournal};
-ghost use Rattle.journal_text.specs.JournalRows.{PlainJournalsAreRead};
-ghost use Rattle.journal_text.specs.OldValueRows.{JournalsAreRead};
-ghost use Rattle.journal_text.specs.Turns.{IsTurns};
-ghost use Rattle.journal_text.specs.TurnRows.{TurnsAreRead};
-ghost use Rattle.journal_text.specs.Rereading.{JournalsReadBack, PlainJournalsReadBack, PlainKeepsLimits, TurnsReadBack};
-ghost use Rattle.journal_text.specs.TextRows.{TextsArePrinted};
+ghost use Rattle.journal_text.specs.{JournalRows.{PlainJournalsAreRead}, OldValueRows.{JournalsAreRead}};
+ghost use Rattle.journal_text.specs.{Turns.{IsTurns}, TurnRows.{TurnsAreRead}};
+ghost use Rattle.journal_text.specs.Rereading.{JournalsReadBack, PlainJournalsReadBack, PlainKeepsLimits};
+ghost use Rattle.journal_text.specs.{Rereading.{TurnsReadBack}, TextRows.{TextsArePrinted}};
 ghost use Rattle.journal_text.specs.Readers.{journal, plain_journal, the_turns};
 
 /// Of any tokens the grammar of a journal with old values says one thing,

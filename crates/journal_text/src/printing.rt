@@ -3,11 +3,11 @@
 ghost use Rattle.std.specs.Prelude.{◌≡◌, ◌<◌, ◌≤◌, ◌++◌, length, map, if◌then◌else◌, IfOk, OnOk, Some, None};
 ghost use Rattle.std.specs.List.{enumerate_from, flat_map};
 ghost use Rattle.text_tokens.specs.Lines.{line_text, lines_text, spaced};
-ghost use Rattle.amoebot_state.specs.Limits.{most_vars};
-ghost use Rattle.amoebot_state.specs.Steps.{plain_entry};
-ghost use Rattle.journal_text.specs.Texts.{caller_lines, cell_words, change_by, change_words, entry_numbers, entry_words};
-ghost use Rattle.journal_text.specs.Texts.{failure_word, journal_text, mark_words, moved_words, old_words, plain_text};
-ghost use Rattle.journal_text.specs.Texts.{turn_words, turns_text, value_words, written_by, written_full, written_lines, written_text};
+ghost use Rattle.amoebot_state.specs.{Limits.{most_vars}, Steps.{plain_entry}};
+ghost use Rattle.journal_text.specs.Texts.{caller_lines, cell_words, change_by, change_words, entry_numbers};
+ghost use Rattle.journal_text.specs.Texts.{entry_words, failure_word, journal_text, mark_words, moved_words};
+ghost use Rattle.journal_text.specs.Texts.{old_words, plain_text, turn_words, turns_text, value_words};
+ghost use Rattle.journal_text.specs.Texts.{written_by, written_full, written_lines, written_text};
 ghost use Rattle.claim_core.specs.Turns.{marks_of};
 
 use amoebot_state::{Cell, CellName, Entry, Failure, Moved, NoMemory};

@@ -1,11 +1,9 @@
 //! The section `turns` read.
 
-ghost use Rattle.std.specs.Prelude.{◌≡◌, ◌≢◌, IfErr};
-ghost use Rattle.std.specs.List.{list_any};
-ghost use Rattle.std.specs.Str.{bytes_eq};
-ghost use Rattle.text_tokens.specs.Reading as reading;
+ghost use Rattle.std.specs.{Prelude.{◌≡◌, ◌≢◌, IfErr}, List.{list_any}, Str.{bytes_eq}};
 ghost use Rattle.text_tokens.specs.Steps.{Gives, ReadsOf, TellsOf, another};
 ghost use Rattle.text_tokens.specs.declared.refusal.ReadRefusal.TheVariants.{NoMemory};
+ghost use Rattle.text_tokens.specs.Reading as reading;
 ghost use Rattle.journal_text.specs.Turns as spec;
 ghost use Rattle.journal_text.specs.Readers as reader;
 

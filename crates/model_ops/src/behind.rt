@@ -1,9 +1,7 @@
 //! What is behind each pair of an end and a direction of an amoebot, looked up once.
 
 ghost use Rattle.std.specs.Prelude.{◌≡◌, ◌<◌, ◌≤◌, Some, slice_get};
-ghost use Rattle.amoebot_state.specs.Zones.{shown_alone};
-ghost use Rattle.amoebot_state.specs.Around.{all_behind};
-ghost use Rattle.amoebot_state.specs.Ports.{pair_place};
+ghost use Rattle.amoebot_state.specs.{Zones.{shown_alone}, Around.{all_behind}, Ports.{pair_place}};
 ghost use Rattle.model_ops.specs.Behinds.{connected_there, free_there, owner_there};
 
 use amoebot_state::{ALL_PORTS, Behind, Failure, Found, Port};

@@ -1,8 +1,8 @@
-ghost use Rattle.std.specs.Prelude.{◌≡◌, ◌+◌, ◌<◌, ◌≤◌, ◌++◌, ◌∷◌, [], IfSome, Some, filter, if◌then◌else◌, length, map};
-ghost use Rattle.std.specs.List.{find};
-ghost use Rattle.amoebot_state.specs.Limits.{most_pairs};
-ghost use Rattle.amoebot_state.specs.Patches.{bot_eq};
-ghost use Rattle.model_ops.specs.Members.{body_change, changed_cells, changed_spot, has_changed, is_changed, is_crossed, most_members, nodes_of, ranked};
+ghost use Rattle.std.specs.Prelude.{◌≡◌, ◌+◌, ◌<◌, ◌≤◌, ◌++◌, ◌∷◌, [], IfSome, Some, filter, if◌then◌else◌};
+ghost use Rattle.std.specs.{Prelude.{length, map}, List.{find}};
+ghost use Rattle.amoebot_state.specs.{Limits.{most_pairs}, Patches.{bot_eq}};
+ghost use Rattle.model_ops.specs.Members.{body_change, changed_cells, changed_spot, has_changed, is_changed};
+ghost use Rattle.model_ops.specs.Members.{is_crossed, most_members, nodes_of, ranked};
 
 use crate::member::{Member, ROOM, add, id_found_on, id_on};
 use amoebot_state::{Bot, Cell, CellName, Patch};

@@ -1,20 +1,15 @@
-ghost use Rattle.std.specs.Prelude.{◌≡◌, ◌<◌, ◌≤◌, ℕ, [], length, is_some, IsSome, IsTrue, IfOk, Some, None, true, unsigned_abs};
+ghost use Rattle.std.specs.Prelude.{◌≡◌, ◌<◌, ◌≤◌, ℕ, [], length, is_some, IsSome, IsTrue, IfOk, Some, None};
+ghost use Rattle.std.specs.Prelude.{true, unsigned_abs};
 ghost use Rattle.amoebot_state.specs.Limits.{most_nodes, most_vars};
-ghost use Rattle.amoebot_state.specs.Configs.{bot_at, is_wall, occupant, set_bot};
-ghost use Rattle.amoebot_state.specs.Walls.{has_node};
-ghost use Rattle.amoebot_state.specs.Ports.{is_port, behind};
-ghost use Rattle.amoebot_state.specs.Refusals.{IsBotInRange};
-ghost use Rattle.tri_lattice.specs.Extent.{is_in};
-ghost use Rattle.tri_lattice.specs.Lattice.{IsNear};
+ghost use Rattle.amoebot_state.specs.{Configs.{bot_at, is_wall, occupant, set_bot}, Walls.{has_node}};
+ghost use Rattle.amoebot_state.specs.{Ports.{is_port, behind}, Refusals.{IsBotInRange}, Occupied.{occupied}};
+ghost use Rattle.amoebot_state.specs.{Around.{all_behind}, Zones.{shown_alone}};
+ghost use Rattle.tri_lattice.specs.{Extent.{is_in}, Lattice.{IsNear}};
 ghost use Rattle.ring_guard.specs.Rings.{ring_in};
-ghost use Rattle.amoebot_state.specs.Occupied.{occupied};
-ghost use Rattle.amoebot_state.specs.Around.{all_behind};
-ghost use Rattle.model_ops.specs.Operations.{need, connected, is_free, is_free_node, owner, read, write, is_value};
-ghost use Rattle.model_ops.specs.Operations.{peer, seen_over, expand, contract, push, pull, may_leave, grow, shrink};
-ghost use Rattle.model_ops.specs.Reaches.{Reaches};
-ghost use Rattle.amoebot_state.specs.Zones.{shown_alone};
-ghost use Rattle.model_ops.specs.WorkingCopies.{own_id, own_bot, copy_after, changes};
-ghost use Rattle.model_ops.specs.Sites.{done};
+ghost use Rattle.model_ops.specs.Operations.{need, connected, is_free, is_free_node, owner, read, write};
+ghost use Rattle.model_ops.specs.Operations.{is_value, peer, seen_over, expand, contract, push, pull};
+ghost use Rattle.model_ops.specs.{Operations.{may_leave, grow, shrink}, Reaches.{Reaches}};
+ghost use Rattle.model_ops.specs.{WorkingCopies.{own_id, own_bot, copy_after, changes}, Sites.{done}};
 
 use crate::changes::push_changed;
 use crate::member::{Member, ROOM, id_on, place_of};
@@ -41,8 +36,7 @@ pub(crate) struct Draft {
 
 impl Model for Draft {
     ghost use Rattle.amoebot_state.specs.Configs.{walled_frame};
-    ghost use Rattle.model_ops.specs.WorkingCopies.{WorkingCopy};
-    ghost use Rattle.model_ops.specs.Members.{copy_of, IsSite};
+    ghost use Rattle.model_ops.specs.{WorkingCopies.{WorkingCopy}, Members.{copy_of, IsSite}};
 
     ghost Value = { WorkingCopy };
 

@@ -1,7 +1,8 @@
-ghost use Rattle.model_ops.specs.Laws.{OneArcTestIsOneArc, ReachedKeepsRest, ReachedDiffIsExact, ReachedLeadsAlso};
-ghost use Rattle.model_ops.specs.Laws.{ShownMeetsTheSame, OperationsKeepConnected, ReachedStaysConnected};
-ghost use Rattle.model_ops.specs.Laws.{UnguardedSplits, PeerLooksBack, CopiesWork, CopyStandsForWorlds};
-ghost use Rattle.model_ops.specs.Laws.{ActsKeepDeciderLaws, GuardedDecidersStayConnected, OnlyWallsBlock};
+ghost use Rattle.model_ops.specs.Laws.{OneArcTestIsOneArc, ReachedKeepsRest, ReachedDiffIsExact};
+ghost use Rattle.model_ops.specs.Laws.{ReachedLeadsAlso, ShownMeetsTheSame, OperationsKeepConnected};
+ghost use Rattle.model_ops.specs.Laws.{ReachedStaysConnected, UnguardedSplits, PeerLooksBack, CopiesWork};
+ghost use Rattle.model_ops.specs.Laws.{CopyStandsForWorlds, ActsKeepDeciderLaws};
+ghost use Rattle.model_ops.specs.Laws.{GuardedDecidersStayConnected, OnlyWallsBlock};
 
 /// The test of one arc answers whether a ring is one arc.
 pub fn one_arc_test_is_one_arc()

@@ -1,5 +1,4 @@
-ghost use Rattle.std.specs.Prelude.{◌≡◌, ◌<◌, ◌+◌, [], IsTrue, Some, nat_eq, nat_lt};
-ghost use Rattle.std.specs.List.{position};
+ghost use Rattle.std.specs.{Prelude.{◌≡◌, ◌<◌, ◌+◌, [], IsTrue, Some, nat_eq, nat_lt}, List.{position}};
 ghost use Rattle.amoebot_state.specs.Zones.{IsShown};
 ghost use Rattle.arrayvec.specs.ArrayVec.{array_vec_len};
 ghost use Rattle.model_ops.specs.Members.{gathered, has_id, id_found_on, id_on, lower, with_member};

@@ -1,12 +1,9 @@
 ghost use Rattle.std.specs.Prelude.{◌≡◌, ◌<◌, [], IsSome, IfOk, Some, None};
-ghost use Rattle.amoebot_state.specs.Limits.{most_vars};
-ghost use Rattle.amoebot_state.specs.Configs.{bot_at};
-ghost use Rattle.amoebot_state.specs.Refusals.{IsBotInRange};
+ghost use Rattle.amoebot_state.specs.{Limits.{most_vars}, Configs.{bot_at}, Refusals.{IsBotInRange}};
 ghost use Rattle.amoebot_state.specs.Zones.{shown_alone};
-ghost use Rattle.model_ops.specs.Operations.{connected, is_free, owner, read, write, peer, expand, contract, push, pull};
-ghost use Rattle.model_ops.specs.Reaches.{Reaches};
-ghost use Rattle.model_ops.specs.WorkingCopies.{opened, own_id, copy_after, changes};
-ghost use Rattle.model_ops.specs.Sites.{done};
+ghost use Rattle.model_ops.specs.Operations.{connected, is_free, owner, read, write, peer, expand, contract};
+ghost use Rattle.model_ops.specs.{Operations.{push, pull}, Reaches.{Reaches}};
+ghost use Rattle.model_ops.specs.{WorkingCopies.{opened, own_id, copy_after, changes}, Sites.{done}};
 
 use crate::behind::{Around, around, behind_at, connected_there, free_there, owner_there};
 use crate::draft::{Draft, copy_walls};
@@ -31,8 +28,7 @@ pub struct Site {
 
 impl Model for Site {
     ghost use Rattle.std.specs.Prelude.{◌≡◌, List, Some};
-    ghost use Rattle.amoebot_state.specs.Around.{all_behind};
-    ghost use Rattle.amoebot_state.specs.declared.found.Behind.{Behind};
+    ghost use Rattle.amoebot_state.specs.{Around.{all_behind}, declared.found.Behind.{Behind}};
     ghost use Rattle.model_ops.specs.WorkingCopies.{WorkingCopy, own_id};
 
     ghost Value = { WorkingCopy };

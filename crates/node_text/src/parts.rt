@@ -3,10 +3,8 @@
 
 ghost use Rattle.std.specs.Prelude.{◌≡◌, ◌≢◌, ◌<◌, ◌≤◌, ◌≤ℤ◌, ◌-ℤ◌, pos, length, IfErr, IfOk};
 ghost use Rattle.tri_lattice.specs.Lattice.{IsNear};
-ghost use Rattle.amoebot_state.specs.Limits.{most_vars};
-ghost use Rattle.amoebot_state.specs.Refusals.{IsBotInRange};
-ghost use Rattle.text_tokens.specs.Steps.{Gives};
-ghost use Rattle.text_tokens.specs.declared.refusal.ReadRefusal.TheVariants.{NoMemory};
+ghost use Rattle.amoebot_state.specs.{Limits.{most_vars}, Refusals.{IsBotInRange}};
+ghost use Rattle.text_tokens.specs.{Steps.{Gives}, declared.refusal.ReadRefusal.TheVariants.{NoMemory}};
 ghost use Rattle.node_text.specs.Parts as spec;
 ghost use Rattle.node_text.specs.PartReaders as reader;
 

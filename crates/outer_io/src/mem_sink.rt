@@ -1,7 +1,6 @@
 ghost use Rattle.std.specs.Prelude.{◌≡◌, ◌≤◌, ◌<◌, length, IfOk, OnErr};
 ghost use Rattle.std.specs.declared.option.Option.TheVariants.{Some, None};
-ghost use Rattle.outer_io.specs.Told.{Rose, TakesFront};
-ghost use Rattle.outer_io.specs.CallPlans.{fresh_plan};
+ghost use Rattle.outer_io.specs.{Told.{Rose, TakesFront}, CallPlans.{fresh_plan}};
 ghost use Rattle.outer_io.specs.MemWrites.{MemWrite, MemWritesAreOne, TornWrites, empty_room, taken_of};
 
 use crate::errors::{Failed, NoMemory};

@@ -1,10 +1,7 @@
 ghost use Rattle.std.specs.Prelude.{◌≡◌, ◌≤◌, ◌<◌, length, IfOk, OnErr};
-ghost use Rattle.std.specs.declared.option.Option.TheVariants.{Some};
-ghost use Rattle.std.specs.Io.{ReadsAtMost};
+ghost use Rattle.std.specs.{declared.option.Option.TheVariants.{Some}, Io.{ReadsAtMost}};
 ghost use Rattle.std.specs.Io.KnownBytes.{ReadConsumes};
-ghost use Rattle.outer_io.specs.Told.{Rose};
-ghost use Rattle.outer_io.specs.Calls.{Calls};
-ghost use Rattle.outer_io.specs.CallPlans.{fresh_plan};
+ghost use Rattle.outer_io.specs.{Told.{Rose}, Calls.{Calls}, CallPlans.{fresh_plan}};
 ghost use Rattle.outer_io.specs.MemReads.{MemRead, MemGives, MemFails, MemReadsAreOne, TornReads, given_of};
 
 use crate::errors::{Failed, NoMemory};

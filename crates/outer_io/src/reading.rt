@@ -1,10 +1,6 @@
 ghost use Rattle.std.specs.Prelude.{◌≡◌, ℕ, ◌<◌, ◌≤◌, List, length, ⊤, IfOk, IfErr, OnErr, IsErrOf};
-ghost use Rattle.std.specs.declared.option.Option.{Option};
-ghost use Rattle.std.specs.Io.{ReadsAtMost};
-ghost use Rattle.std.specs.Io.KnownBytes.{ReadConsumes};
-ghost use Rattle.outer_io.specs.Told.{Rose};
-ghost use Rattle.outer_io.specs.Calls.{Calls};
-ghost use Rattle.outer_io.specs.Readings.{ReadsWhole, ReadsUpTo};
+ghost use Rattle.std.specs.{declared.option.Option.{Option}, Io.{ReadsAtMost}, Io.KnownBytes.{ReadConsumes}};
+ghost use Rattle.outer_io.specs.{Told.{Rose}, Calls.{Calls}, Readings.{ReadsWhole, ReadsUpTo}};
 
 use crate::errors::{Failed, ReadError};
 use std::alloc::Global;

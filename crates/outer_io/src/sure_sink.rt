@@ -1,5 +1,6 @@
 ghost use Rattle.std.specs.Prelude.{◌≡◌, ◌<◌, ◌↔◌, length, IfOk, IsTrue, IsSome};
-ghost use Rattle.outer_io.specs.KeptBytes.{nothing_kept, kept_after, KeepsPiece, written_of, PiecesAreKeptAsOne, TextIsKeptAsOnePiece};
+ghost use Rattle.outer_io.specs.KeptBytes.{nothing_kept, kept_after, KeepsPiece, written_of};
+ghost use Rattle.outer_io.specs.KeptBytes.{PiecesAreKeptAsOne, TextIsKeptAsOnePiece};
 
 use crate::errors::{Failed, NoMemory};
 use crate::writing::Sink;

@@ -1,7 +1,6 @@
 ghost use Rattle.std.specs.Prelude.{◌≡◌, ℕ, ◌<◌, ◌≤◌, List, [], length, ⊤, IfOk, MatchResult, OnOk, OnErr};
 ghost use Rattle.std.specs.declared.option.Option.{Option};
-ghost use Rattle.outer_io.specs.Told.{Rose, TakesFront};
-ghost use Rattle.outer_io.specs.Writings.{SmallWritings, WritesAll, WritesFront};
+ghost use Rattle.outer_io.specs.{Told.{Rose, TakesFront}, Writings.{SmallWritings, WritesAll, WritesFront}};
 
 use crate::errors::{Failed, WriteFault};
 

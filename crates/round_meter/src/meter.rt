@@ -1,7 +1,6 @@
 ghost use Rattle.std.specs.Prelude.{◌≡◌, ◌+◌, [], ◌<◌, ◌^◌, length, IfOk, OnOk, IfErr};
 ghost use Rattle.amoebot_state.specs.Steps.{plain_entry};
-ghost use Rattle.serial_model.specs.Forms.{full_entry};
-ghost use Rattle.serial_model.specs.Replays.{IsNoStep};
+ghost use Rattle.serial_model.specs.{Forms.{full_entry}, Replays.{IsNoStep}};
 ghost use Rattle.round_meter.specs.Meters.{GoesOnWith, GoesOnIn, IsFed, IsMetered, StandsForRun, waiting_of};
 
 use crate::progress::Progress;

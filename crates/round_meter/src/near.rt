@@ -1,11 +1,10 @@
 //! The amoebots whose zones may have a changed cell.
-ghost use Rattle.std.specs.Prelude.{◌≡◌, ◌+◌, ◌≤◌, ◌<◌, ◌∷◌, [], length, nat_eq};
-ghost use Rattle.std.specs.List.{All, fold};
+ghost use Rattle.std.specs.{Prelude.{◌≡◌, ◌+◌, ◌≤◌, ◌<◌, ◌∷◌, [], length, nat_eq}, List.{All, fold}};
 ghost use Rattle.tri_lattice.specs.Lattice.{IsNear, node_eq};
-ghost use Rattle.amoebot_state.specs.Limits.{most_pairs};
-ghost use Rattle.amoebot_state.specs.Storage.{with_new};
+ghost use Rattle.amoebot_state.specs.{Limits.{most_pairs}, Storage.{with_new}};
 ghost use Rattle.arrayvec.specs.ArrayVec.{array_vec_len};
-ghost use Rattle.round_meter.specs.Asking.{IsInReach, cells_among, nodes_of_cell, nodes_asked, ids_on, ids_round, ids_asked, near_room, near_nodes_room};
+ghost use Rattle.round_meter.specs.Asking.{IsInReach, cells_among, nodes_of_cell, nodes_asked, ids_on};
+ghost use Rattle.round_meter.specs.Asking.{ids_round, ids_asked, near_room, near_nodes_room};
 
 use amoebot_state::{Cell, CellName, World};
 use arrayvec::ArrayVec;

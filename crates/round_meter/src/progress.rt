@@ -1,6 +1,5 @@
 //! How far a run has come, with its rounds.
-ghost use Rattle.std.specs.Prelude.{◌≡◌, ◌+◌, [], ◌<◌, ◌^◌, length, IfOk, OnOk, IfErr};
-ghost use Rattle.std.specs.List.{All};
+ghost use Rattle.std.specs.{Prelude.{◌≡◌, ◌+◌, [], ◌<◌, ◌^◌, length, IfOk, OnOk, IfErr}, List.{All}};
 ghost use Rattle.amoebot_state.specs.Zones.{shown};
 ghost use Rattle.serial_model.specs.Replays.{IsNoStep};
 ghost use Rattle.round_meter.specs.Meters.{GoesOnIn, IsMetered, StandsForRun, waiting_of};
@@ -24,8 +23,7 @@ pub(crate) struct Progress {
 }
 
 impl Model for Progress {
-    ghost use Rattle.round_meter.specs.Meters.{Metered};
-    ghost use Rattle.round_meter.specs.Tallies.{metered, IsInStep};
+    ghost use Rattle.round_meter.specs.{Meters.{Metered}, Tallies.{metered, IsInStep}};
 
     ghost Value = { Metered };
 

@@ -1,6 +1,6 @@
 //! How amoebots stand in the rounds of a run, with counts that are kept.
-ghost use Rattle.std.specs.Prelude.{◌≡◌, ◌+◌, ◌<◌, ◌≤◌, ◌^◌, ◌∷◌, ◌++◌, [], length, slice_set, if◌then◌else◌, OnOk, IfOk};
-ghost use Rattle.std.specs.List.{count_by};
+ghost use Rattle.std.specs.Prelude.{◌≡◌, ◌+◌, ◌<◌, ◌≤◌, ◌^◌, ◌∷◌, ◌++◌, [], length, slice_set, if◌then◌else◌};
+ghost use Rattle.std.specs.{Prelude.{OnOk, IfOk}, List.{count_by}};
 ghost use Rattle.amoebot_state.specs.Limits.{most_bots};
 ghost use Rattle.round_meter.specs.Asking.{fresh_standing, standings_after_entry, standings_after_note};
 ghost use Rattle.round_meter.specs.Tallies.{waiting_in, with_round_ended, with_standings};

@@ -2,8 +2,9 @@
 
 ghost use Rattle.std.specs.Prelude.{ℕ, ◌≡◌, ◌<◌, ◌≤◌, length, IfOk, IsTrue};
 ghost use Rattle.tri_lattice.specs.declared.node.Node.{Node};
-ghost use Rattle.run_sample.specs.Sample.{square_bots, sample_bots, AreSample, IsNextBot, Placed, IsFirstEmpty, IsInside};
-ghost use Rattle.run_sample.specs.Sample.{is_taken, node_of, bot_on, square_node, seeded, draw, drawn};
+ghost use Rattle.run_sample.specs.Sample.{square_bots, sample_bots, AreSample, IsNextBot, Placed};
+ghost use Rattle.run_sample.specs.Sample.{IsFirstEmpty, IsInside, is_taken, node_of, bot_on, square_node};
+ghost use Rattle.run_sample.specs.Sample.{seeded, draw, drawn};
 
 use amoebot_state::{Bot, Chir, NoMemory};
 use rand_core::SeedableRng;

@@ -1,4 +1,5 @@
-ghost use Rattle.run_sample.specs.Laws.{FirstEmptyIsUnique, SampleIsFit, SampleIsSome, SampleIsUnique, FirstOfSeedOne};
+ghost use Rattle.run_sample.specs.Laws.{FirstEmptyIsUnique, SampleIsFit, SampleIsSome, SampleIsUnique};
+ghost use Rattle.run_sample.specs.Laws.{FirstOfSeedOne};
 
 /// At most one node is the first empty one that is met.
 pub fn first_empty_is_unique()

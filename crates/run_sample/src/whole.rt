@@ -1,7 +1,6 @@
 ghost use Rattle.std.specs.Prelude.{◌≡◌, ◌≤◌, length, IfOk, true};
 ghost use Rattle.tri_lattice.specs.Sets.{IsConnected};
-ghost use Rattle.amoebot_state.specs.Configs.{IsValid, with_these};
-ghost use Rattle.amoebot_state.specs.Occupied.{occupied};
+ghost use Rattle.amoebot_state.specs.{Configs.{IsValid, with_these}, Occupied.{occupied}};
 ghost use Rattle.action_tree.specs.Shipped as sample;
 ghost use Rattle.run_sample.specs.Sample.{sample_area, sample_bots, sample_frame, sample_maxes};
 ghost use Rattle.run_sample.specs.Whole.{IsSample};

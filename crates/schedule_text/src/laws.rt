@@ -2,10 +2,8 @@
 
 ghost use Rattle.std.specs.Prelude.{ℕ};
 ghost use Rattle.text_tokens.specs.Lawful.{Exact, IsDecided};
-ghost use Rattle.schedule_text.specs.ListRows.{ListsAreRead};
-ghost use Rattle.schedule_text.specs.Lists.{IsLists};
-ghost use Rattle.schedule_text.specs.Readers.{a_schedule, the_lists};
-ghost use Rattle.schedule_text.specs.ScheduleRows.{SchedulesAreRead};
+ghost use Rattle.schedule_text.specs.{ListRows.{ListsAreRead}, Lists.{IsLists}};
+ghost use Rattle.schedule_text.specs.{Readers.{a_schedule, the_lists}, ScheduleRows.{SchedulesAreRead}};
 ghost use Rattle.schedule_text.specs.Schedules.{IsSchedule};
 
 /// Of any tokens the grammar of lists says one thing, and its reader answers that.

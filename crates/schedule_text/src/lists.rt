@@ -1,9 +1,7 @@
 //! The section `lists` read.
 
-ghost use Rattle.std.specs.Prelude.{◌<◌, ◌≤◌, ◌+◌, length, option_map, IfOk, IfSome};
-ghost use Rattle.std.specs.List.{All};
-ghost use Rattle.text_tokens.specs.Reading.{is_number};
-ghost use Rattle.text_tokens.specs.Steps.{Gives, ReadsOf, TellsOf, another};
+ghost use Rattle.std.specs.{Prelude.{◌<◌, ◌≤◌, ◌+◌, length, option_map, IfOk, IfSome}, List.{All}};
+ghost use Rattle.text_tokens.specs.{Reading.{is_number}, Steps.{Gives, ReadsOf, TellsOf, another}};
 ghost use Rattle.claim_core.specs.Limits.{most_callers, most_turns, most_ids};
 ghost use Rattle.claim_core.specs.Turns.{AreFew, HaveBots, IsList};
 ghost use Rattle.schedule_text.specs.Lists as spec;

@@ -2,8 +2,7 @@
 
 ghost use Rattle.std.specs.Prelude.{◌≡◌, ◌<◌, ◌≤◌, ◌+◌, length, option_map, slice_index, IfOk, IfSome};
 ghost use Rattle.std.specs.List.{All};
-ghost use Rattle.text_tokens.specs.Reading.{is_number};
-ghost use Rattle.text_tokens.specs.Steps.{Gives, ReadsOf, TellsOf, another};
+ghost use Rattle.text_tokens.specs.{Reading.{is_number}, Steps.{Gives, ReadsOf, TellsOf, another}};
 ghost use Rattle.schedule_text.specs.Schedules as spec;
 ghost use Rattle.schedule_text.specs.Readers as reader;
 ghost use Rattle.schedule_text.specs.Views as view;

@@ -1,12 +1,9 @@
 //! The forms in which a journal has its entries.
 
 ghost use Rattle.std.specs.Prelude.{◌≡◌, ℕ, Decides};
-ghost use Rattle.amoebot_state.specs.declared.verdict.Change.{Change};
-ghost use Rattle.amoebot_state.specs.declared.verdict.Entry.{Entry};
-ghost use Rattle.amoebot_state.specs.Pairs.{plain_patch, plain_triple};
-ghost use Rattle.amoebot_state.specs.Steps.{entry_of, plain_entry};
-ghost use Rattle.serial_model.specs.Forms.{IsForm, full_entry};
-ghost use Rattle.serial_model.specs.FormLaws.{full_is_form, plain_is_form};
+ghost use Rattle.amoebot_state.specs.{declared.verdict.Change.{Change}, declared.verdict.Entry.{Entry}};
+ghost use Rattle.amoebot_state.specs.{Pairs.{plain_patch, plain_triple}, Steps.{entry_of, plain_entry}};
+ghost use Rattle.serial_model.specs.{Forms.{IsForm, full_entry}, FormLaws.{full_is_form, plain_is_form}};
 
 use amoebot_state::{Cell, CellName, Change, Entry, Moved, Patch, PlainEntry, PlainPatch};
 

@@ -1,5 +1,6 @@
 ghost use Rattle.serial_model.specs.Laws.{FullIsItself, RunIsSteps, PlainStepIsUnique, PlainRunIsUnique};
-ghost use Rattle.serial_model.specs.Laws.{FirstNoStepIsUnique, RunHasOnlySteps, RunOrFirstNoStep, NoStepIsAnotherVerdict};
+ghost use Rattle.serial_model.specs.Laws.{FirstNoStepIsUnique, RunHasOnlySteps, RunOrFirstNoStep};
+ghost use Rattle.serial_model.specs.Laws.{NoStepIsAnotherVerdict};
 
 use crate::forms::EntryForm;
 

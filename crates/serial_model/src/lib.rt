@@ -2,9 +2,7 @@
 #![tactic(auto)]
 
 ghost use Rattle.std.specs.Prelude.{◌≡◌, ◌<◌, length, IfNone, IfSome};
-ghost use Rattle.amoebot_state.specs.SerialTurns.{SerialTurn};
-ghost use Rattle.amoebot_state.specs.Steps.{Step, plain_entry};
-ghost use Rattle.amoebot_state.specs.Zones.{shown};
+ghost use Rattle.amoebot_state.specs.{SerialTurns.{SerialTurn}, Steps.{Step, plain_entry}, Zones.{shown}};
 ghost use Rattle.serial_model.specs.Replays.{IsNoStep};
 
 mod forms;

@@ -1,8 +1,6 @@
 ghost use Rattle.std.specs.Prelude.{◌≡◌, ◌≢◌, ◌<◌, length, Decides, IfNone, IfSome, IfOk, IfErr};
-ghost use Rattle.std.specs.Bool.{OnTrue, OnFalse};
-ghost use Rattle.std.specs.List.{All};
-ghost use Rattle.amoebot_state.specs.Zones.{shown};
-ghost use Rattle.amoebot_state.specs.Steps.{Run, Step, change_of, plain_entry};
+ghost use Rattle.std.specs.{Bool.{OnTrue, OnFalse}, List.{All}};
+ghost use Rattle.amoebot_state.specs.{Zones.{shown}, Steps.{Run, Step, change_of, plain_entry}};
 ghost use Rattle.serial_model.specs.Forms.{full_entry};
 ghost use Rattle.serial_model.specs.Replays.{AreCountable, IsNoStep, IsFirstNoStep, RunIn, StepIn};
 

@@ -1,6 +1,5 @@
 ghost use Rattle.std.specs.Prelude.{◌<◌, ◌≤◌, ◌+◌, ◌-◌, ◌%◌, length, Decides, false, true, ℕ, IfSome, IfNone};
-ghost use Rattle.shape_checks.specs.Hexagons.{IsArc};
-ghost use Rattle.shape_checks.specs.Arcs.{circle_entry, IsStart};
+ghost use Rattle.shape_checks.specs.{Hexagons.{IsArc}, Arcs.{circle_entry, IsStart}};
 ghost use Rattle.shape_checks.specs.Candidates.{most_places};
 
 /// Whether the true places of a circle are those of an arc: none, all,

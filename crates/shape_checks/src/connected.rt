@@ -1,9 +1,8 @@
 ghost use Rattle.std.specs.Prelude.{◌≡◌, ◌<◌, ◌+◌, ◌*◌, length, Decides, IfOk, OnOk, IsTrue};
-ghost use Rattle.tri_lattice.specs.declared.node.Node.{Node};
-ghost use Rattle.tri_lattice.specs.Extent.{is_in};
-ghost use Rattle.tri_lattice.specs.Sets.{IsConnected};
+ghost use Rattle.tri_lattice.specs.{declared.node.Node.{Node}, Extent.{is_in}, Sets.{IsConnected}};
 ghost use Rattle.amoebot_state.specs.Occupied.{occupied};
-ghost use Rattle.shape_checks.specs.Marks.{node_mark, unmarked_count, with_mark, with_met, met, IsSearch, IsReach};
+ghost use Rattle.shape_checks.specs.Marks.{node_mark, unmarked_count, with_mark, with_met, met, IsSearch};
+ghost use Rattle.shape_checks.specs.Marks.{IsReach};
 
 use amoebot_state::{NoMemory, World};
 use std::alloc::Global;

@@ -1,9 +1,7 @@
 ghost use Rattle.std.specs.Prelude.{◌≡◌, ◌<◌, ◌≤◌, ◌*◌, ◌≤ℤ◌, pos, negsuc, length, Decides, IfOk, IsTrue, ℕ};
-ghost use Rattle.tri_lattice.specs.declared.node.Node.{Node};
-ghost use Rattle.tri_lattice.specs.Lattice.{IsNear, distance};
+ghost use Rattle.tri_lattice.specs.{declared.node.Node.{Node}, Lattice.{IsNear, distance}};
 ghost use Rattle.amoebot_state.specs.Occupied.{occupied};
-ghost use Rattle.shape_checks.specs.Arcs.{circle_entry};
-ghost use Rattle.shape_checks.specs.Candidates.{IsCentral, most_radius};
+ghost use Rattle.shape_checks.specs.{Arcs.{circle_entry}, Candidates.{IsCentral, most_radius}};
 ghost use Rattle.shape_checks.specs.Hexagons.{steps_away, ring_node, IsHexagonAt, AreContracted};
 
 use crate::arc::is_arc;

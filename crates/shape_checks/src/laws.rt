@@ -1,5 +1,6 @@
-ghost use Rattle.shape_checks.specs.Laws.{RingIsItsDistance, NextPlacesMeet, TwoRunsAreNoArc, FullRingsAreHexagons};
-ghost use Rattle.shape_checks.specs.Laws.{RadiiFollow, HexagonsAreConnected, OneAloneIsHexagon, MeasuresAreDecided};
+ghost use Rattle.shape_checks.specs.Laws.{RingIsItsDistance, NextPlacesMeet, TwoRunsAreNoArc};
+ghost use Rattle.shape_checks.specs.Laws.{FullRingsAreHexagons, RadiiFollow, HexagonsAreConnected};
+ghost use Rattle.shape_checks.specs.Laws.{OneAloneIsHexagon, MeasuresAreDecided};
 
 /// What holds of rings and their arcs.
 pub fn ring_laws()

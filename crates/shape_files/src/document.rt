@@ -1,13 +1,10 @@
 //! Whole documents.
 
-ghost use Rattle.text_tokens.specs.declared.refusal.RefusalKind.TheVariants.{Trailing};
-ghost use Rattle.text_tokens.specs.Text.{IsCountable};
+ghost use Rattle.text_tokens.specs.{declared.refusal.RefusalKind.TheVariants.{Trailing}, Text.{IsCountable}};
 ghost use Rattle.text_tokens.specs.Steps.{ReadsInput, Gives};
 ghost use Rattle.std.specs.Prelude.{◌≤◌};
-ghost use Rattle.shape_files.specs.Frame.{least_version};
-ghost use Rattle.shape_files.specs.Documents.{IsDocument, IsDocumentFrom};
-ghost use Rattle.shape_files.specs.DocumentReaders.{document_from};
-ghost use Rattle.shape_files.specs.Views.{contents};
+ghost use Rattle.shape_files.specs.{Frame.{least_version}, Documents.{IsDocument, IsDocumentFrom}};
+ghost use Rattle.shape_files.specs.{DocumentReaders.{document_from}, Views.{contents}};
 
 use crate::Form;
 use crate::forms::read_form;

@@ -2,18 +2,16 @@
 //! The functions do nothing: their clauses are the laws.
 
 ghost use Rattle.std.specs.Prelude.{List};
-ghost use Rattle.text_tokens.specs.Reading.{Reader};
-ghost use Rattle.text_tokens.specs.Grammar.{Symbol};
-ghost use Rattle.shape_files.specs.declared.section_kind.Section.{Section as SectionValue};
+ghost use Rattle.text_tokens.specs.{Reading.{Reader}, Grammar.{Symbol}};
 ghost use Rattle.shape_files.specs.Documents.{Body, DocumentsAreDecided, FormsAreStraight};
-ghost use Rattle.shape_files.specs.DocumentReaders.{body};
-ghost use Rattle.shape_files.specs.DocumentRows.{DocumentsAreRead};
-ghost use Rattle.shape_files.specs.RunTexts.{RunsAreReplayed};
-ghost use Rattle.shape_files.specs.WholeTexts.{DocumentsReadBack};
-ghost use Rattle.shape_files.specs.WholeTextRows.{WholeTextRows};
-ghost use Rattle.shape_files.specs.Fitting.{DocumentsAreSound, DocumentsFit};
-ghost use Rattle.shape_files.specs.LeastVersions.{DecidedFromEach, EarlierIsBadRange, LaterIsDocument, DocumentIsLater, LaterHasOldValues};
-ghost use Rattle.shape_files.specs.FrameLaws.{AreSections, FrameLaw, HeaderIsDecided, StraightLaw, FormsAreDistinct};
+ghost use Rattle.shape_files.specs.{DocumentReaders.{body}, DocumentRows.{DocumentsAreRead}};
+ghost use Rattle.shape_files.specs.{RunTexts.{RunsAreReplayed}, WholeTexts.{DocumentsReadBack}};
+ghost use Rattle.shape_files.specs.{WholeTextRows.{WholeTextRows}, Fitting.{DocumentsAreSound, DocumentsFit}};
+ghost use Rattle.shape_files.specs.LeastVersions.{DecidedFromEach, EarlierIsBadRange, LaterIsDocument};
+ghost use Rattle.shape_files.specs.LeastVersions.{DocumentIsLater, LaterHasOldValues};
+ghost use Rattle.shape_files.specs.FrameLaws.{AreSections, FrameLaw, HeaderIsDecided, StraightLaw};
+ghost use Rattle.shape_files.specs.FrameLaws.{FormsAreDistinct};
+ghost use Rattle.shape_files.specs.declared.section_kind.Section.Section as SectionValue;
 
 /// The sections of a document, each in the state that those before it gave,
 /// with what it makes of the state.

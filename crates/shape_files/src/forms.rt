@@ -2,7 +2,8 @@
 
 ghost use Rattle.text_tokens.specs.Steps.{Gives};
 ghost use Rattle.shape_files.specs.Views.{contents};
-ghost use Rattle.shape_files.specs.Straight.{needed_section, optional_section, callers, record_behind, behind_program, straight};
+ghost use Rattle.shape_files.specs.Straight.{needed_section, optional_section, callers, record_behind};
+ghost use Rattle.shape_files.specs.Straight.{behind_program, straight};
 
 use crate::head::{is_next, missing};
 use crate::parts::Parts;

@@ -1,11 +1,9 @@
 //! The header of a document, and what stands where a section is to begin.
 
 ghost use Rattle.std.specs.Prelude.{◌≡◌, ◌≤◌, IfOk};
-ghost use Rattle.text_tokens.specs.Cursor.{next_passes, refusal_at};
-ghost use Rattle.text_tokens.specs.Steps.{TellsOf, ReadsOf, Gives};
-ghost use Rattle.shape_files.specs.Frame.{IsHeader, least_version, greatest_version, is_word_of_section, is_section_word};
-ghost use Rattle.shape_files.specs.FrameReaders.{header_from};
-ghost use Rattle.shape_files.specs.Views.{as_read};
+ghost use Rattle.text_tokens.specs.{Cursor.{next_passes, refusal_at}, Steps.{TellsOf, ReadsOf, Gives}};
+ghost use Rattle.shape_files.specs.Frame.{IsHeader, least_version, greatest_version, is_word_of_section};
+ghost use Rattle.shape_files.specs.{Frame.{is_section_word}, FrameReaders.{header_from}, Views.{as_read}};
 ghost use Rattle.shape_files.specs.Straight.{missing_kind};
 
 use crate::Section;

@@ -1,10 +1,10 @@
 //! What a document has.
 
-ghost use Rattle.std.specs.Prelude.{◌≡◌, ◌≤◌};
-ghost use Rattle.std.specs.Option.{option_map};
+ghost use Rattle.std.specs.{Prelude.{◌≡◌, ◌≤◌}, Option.{option_map}};
 ghost use Rattle.amoebot_state.specs.Limits.{most_vars};
 ghost use Rattle.shape_files.specs.Views.{contents};
-ghost use Rattle.shape_files.specs.Documents.{nothing_yet, var_count, maxes_in, actions_of, bots_of, callers_of};
+ghost use Rattle.shape_files.specs.Documents.{nothing_yet, var_count, maxes_in, actions_of, bots_of};
+ghost use Rattle.shape_files.specs.Documents.{callers_of};
 
 use action_check::Checked;
 use amoebot_state::World;
@@ -111,8 +111,7 @@ pub struct Sections {
 impl Model for Sections {
     ghost use Rattle.std.specs.Coded.{codes};
     ghost use Rattle.action_tree.specs.Stored.{program_code};
-    ghost use Rattle.shape_files.specs.Documents.{Contents};
-    ghost use Rattle.shape_files.specs.Views.{contents};
+    ghost use Rattle.shape_files.specs.{Documents.{Contents}, Views.{contents}};
 
     ghost Value = { Contents };
 

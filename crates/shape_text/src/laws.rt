@@ -2,12 +2,9 @@
 
 ghost use Rattle.std.specs.Prelude.{ℕ, List};
 ghost use Rattle.text_tokens.specs.Lawful.{Exact, IsDecided};
-ghost use Rattle.shape_text.specs.Shapes.{IsFinal, IsShape};
-ghost use Rattle.shape_text.specs.Readers.{a_final, a_shape};
-ghost use Rattle.shape_text.specs.Judgements.{JudgedAsWorlds};
-ghost use Rattle.shape_text.specs.Rereading.{ShapesReadBack};
-ghost use Rattle.shape_text.specs.ShapeRows.{ShapesAreRead};
-ghost use Rattle.shape_text.specs.TextRows.{ShapeTextsArePrinted};
+ghost use Rattle.shape_text.specs.{Shapes.{IsFinal, IsShape}, Readers.{a_final, a_shape}};
+ghost use Rattle.shape_text.specs.{Judgements.{JudgedAsWorlds}, Rereading.{ShapesReadBack}};
+ghost use Rattle.shape_text.specs.{ShapeRows.{ShapesAreRead}, TextRows.{ShapeTextsArePrinted}};
 ghost use Rattle.shape_text.specs.WallRows.{WallsAreRead};
 
 /// Of any tokens the grammar of a shape says one thing, and its reader answers that;

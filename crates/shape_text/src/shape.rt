@@ -1,11 +1,10 @@
 //! The sections `shape` and `final` read.
 
-ghost use Rattle.std.specs.Prelude.{◌≡◌, ◌<◌, ◌≤◌, ℕ, length, true, map, option_map, vec_len, IfOk, IfErr, IfSome};
-ghost use Rattle.std.specs.List.{All};
+ghost use Rattle.std.specs.Prelude.{◌≡◌, ◌<◌, ◌≤◌, ℕ, length, true, map, option_map, vec_len, IfOk, IfErr};
+ghost use Rattle.std.specs.{Prelude.{IfSome}, List.{All}};
 ghost use Rattle.text_tokens.specs.declared.refusal.ReadRefusal.TheVariants.{NoMemory};
 ghost use Rattle.text_tokens.specs.Steps.{Gives, ReadsOf, TellsOf, another};
-ghost use Rattle.amoebot_state.specs.Limits.{most_bots, most_vars, most_walls};
-ghost use Rattle.amoebot_state.specs.Refusals.{IsBotInRange};
+ghost use Rattle.amoebot_state.specs.{Limits.{most_bots, most_vars, most_walls}, Refusals.{IsBotInRange}};
 ghost use Rattle.tri_lattice.specs.Extent.{most_side};
 ghost use Rattle.node_text.specs.Parts as part;
 ghost use Rattle.shape_text.specs.Shapes as spec;

@@ -1,10 +1,10 @@
 //! The parts of programs, all on line 0.
 
 ghost use Rattle.std.specs.Prelude.{◌≡◌, ◌∷◌, [], false, codes, map, IfOk, Ok};
-ghost use Rattle.action_tree.specs.Trees as tree;
-ghost use Rattle.action_tree.specs.Views.{name_of, literal_of, guard_of, port_of, term_of, sum_of, stmt_of, stmts_of};
-ghost use Rattle.action_tree.specs.Views.{move_of, var_of, action_of};
+ghost use Rattle.action_tree.specs.Views.{name_of, literal_of, guard_of, port_of, term_of, sum_of, stmt_of};
+ghost use Rattle.action_tree.specs.Views.{stmts_of, move_of, var_of, action_of};
 ghost use Rattle.action_tree.specs.declared.expression.PortSet.TheVariants.{Ports};
+ghost use Rattle.action_tree.specs.Trees as tree;
 ghost use Rattle.action_tree.specs.Shipped as sample;
 
 use action_tree::{

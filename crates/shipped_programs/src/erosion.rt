@@ -1,9 +1,9 @@
 //! The program `erosion`.
 
 ghost use Rattle.std.specs.Prelude.{◌≡◌, ◌∷◌, [], codes, take, map, IfOk};
-ghost use Rattle.action_tree.specs.Trees as tree;
 ghost use Rattle.action_tree.specs.Views.{name_of, guard_of, port_of, term_of, stmt_of, var_of, action_of};
 ghost use Rattle.action_tree.specs.declared.expression.PortSet.TheVariants.{Ports};
+ghost use Rattle.action_tree.specs.Trees as tree;
 ghost use Rattle.action_tree.specs.Shipped as sample;
 ghost use Rattle.shipped_programs.specs.Shipped.{run_ends, erode_guard, erode_body};
 

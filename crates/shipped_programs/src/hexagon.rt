@@ -1,14 +1,16 @@
 //! The program `hexagon`. Its variable `state` is 0 idle, 1 seed, 2 follower, 3 root, 4 retired.
 
 ghost use Rattle.std.specs.Prelude.{◌≡◌, ◌∷◌, [], codes, map, IfOk};
+ghost use Rattle.action_tree.specs.Views.{name_of, guard_of, port_of, term_of, part_of, sum_of, stmt_of};
+ghost use Rattle.action_tree.specs.Views.{var_of, action_of};
 ghost use Rattle.action_tree.specs.Trees as tree;
-ghost use Rattle.action_tree.specs.Views.{name_of, guard_of, port_of, term_of, part_of, sum_of, stmt_of, var_of, action_of};
 ghost use Rattle.action_tree.specs.Shipped as sample;
 ghost use Rattle.amoebot_state.specs.declared.bot.End.TheVariants.{Tail};
-ghost use Rattle.shipped_programs.specs.Shipped.{root_guard, root_body, follow_guard, follow_body, retire_guard};
-ghost use Rattle.shipped_programs.specs.Shipped.{retire_body, aimed_at, last_retired, next_is_still, go_guard, room};
-ghost use Rattle.shipped_programs.specs.Shipped.{drag_guard, drag_body, tail_follower, follower_turned};
-ghost use Rattle.shipped_programs.specs.Shipped.{rest_guard, waits, head_follower};
+ghost use Rattle.shipped_programs.specs.Shipped.{root_guard, root_body, follow_guard, follow_body};
+ghost use Rattle.shipped_programs.specs.Shipped.{retire_guard, retire_body, aimed_at, last_retired};
+ghost use Rattle.shipped_programs.specs.Shipped.{next_is_still, go_guard, room, drag_guard, drag_body};
+ghost use Rattle.shipped_programs.specs.Shipped.{tail_follower, follower_turned, rest_guard, waits};
+ghost use Rattle.shipped_programs.specs.Shipped.{head_follower};
 
 use crate::build::{
     action, all_four, all_three, both, either, first_port, is, literal, not, number, one, p, pair,

@@ -1,7 +1,6 @@
 //! Laws of small runs. Each is the clause of a function with an empty body.
 
-ghost use Rattle.small_worlds.specs.Rows.{SmallInterleaving};
-ghost use Rattle.small_worlds.specs.Tickets.{SmallTickets};
+ghost use Rattle.small_worlds.specs.{Rows.{SmallInterleaving}, Tickets.{SmallTickets}};
 ghost use Rattle.small_worlds.specs.Turns.{SmallSerialTurns};
 
 /// A small interleaving of two callers whose zones meet, with the report that it leaves:

@@ -1,12 +1,9 @@
 //! Amoebots, worlds of them, and lists of turns over such a world.
 
 ghost use Rattle.std.specs.Prelude.{◌≡◌, ◌<◌, ◌≤◌, ◌∷◌, ◌++◌, [], map, length, Some, IfOk, OnOk, IsSome};
-ghost use Rattle.std.specs.Bool.{OnTrue};
-ghost use Rattle.std.specs.List.{All};
+ghost use Rattle.std.specs.{Bool.{OnTrue}, List.{All}};
 ghost use Rattle.tri_lattice.specs.Lattice.{IsNear};
-ghost use Rattle.amoebot_state.specs.Limits.{most_bots};
-ghost use Rattle.amoebot_state.specs.Configs.{bot_at};
-ghost use Rattle.amoebot_state.specs.Refusals.{IsBotInRange};
+ghost use Rattle.amoebot_state.specs.{Limits.{most_bots}, Configs.{bot_at}, Refusals.{IsBotInRange}};
 ghost use Rattle.claim_core.specs.Turns.{HaveBots};
 
 use amoebot_state::{Bot, Chir, World};

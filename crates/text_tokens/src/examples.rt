@@ -2,14 +2,10 @@
 //! The functions do nothing: their clauses are the laws.
 
 ghost use Rattle.text_tokens.specs.declared.refusal.RefusalKind.TheVariants.{Trailing};
-ghost use Rattle.text_tokens.specs.Groups.{AreGroups, groups_to_end};
-ghost use Rattle.text_tokens.specs.Lawful.{Exact, IsDecided};
-ghost use Rattle.text_tokens.specs.Inputs.{IsDecidedInput};
-ghost use Rattle.text_tokens.specs.Agreement.{AllButAgreement};
-ghost use Rattle.text_tokens.specs.GroupFaults.{GroupsAreJudged};
-ghost use Rattle.text_tokens.specs.GroupTexts.{GroupsAreRead};
-ghost use Rattle.text_tokens.specs.Puts.{IsPut, put};
-ghost use Rattle.text_tokens.specs.PutTexts.{PutsAreRead};
+ghost use Rattle.text_tokens.specs.{Groups.{AreGroups, groups_to_end}, Lawful.{Exact, IsDecided}};
+ghost use Rattle.text_tokens.specs.{Inputs.{IsDecidedInput}, Agreement.{AllButAgreement}};
+ghost use Rattle.text_tokens.specs.{GroupFaults.{GroupsAreJudged}, GroupTexts.{GroupsAreRead}};
+ghost use Rattle.text_tokens.specs.{Puts.{IsPut, put}, PutTexts.{PutsAreRead}};
 
 /// The tokens of groups, each judged once nothing more belongs to it, are read in one way,
 /// or have one first fault, and their reader answers that.

@@ -2,8 +2,7 @@
 //! It is the pattern for elements that may go on, and for a whole input.
 
 ghost use Rattle.std.specs.Prelude.{◌<◌, IfOk, IfSome, map, option_map};
-ghost use Rattle.text_tokens.specs.declared.refusal.RefusalKind.TheVariants.{Trailing};
-ghost use Rattle.text_tokens.specs.Text.{IsCountable};
+ghost use Rattle.text_tokens.specs.{declared.refusal.RefusalKind.TheVariants.{Trailing}, Text.{IsCountable}};
 ghost use Rattle.text_tokens.specs.Steps.{Gives, ReadsInput, ReadsOf, TellsOf, another};
 ghost use Rattle.text_tokens.specs.Groups as spec;
 ghost use Rattle.text_tokens.specs.GroupViews as view;

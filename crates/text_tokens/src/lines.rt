@@ -1,6 +1,6 @@
-ghost use Rattle.std.specs.Prelude.{◌≡◌, ◌∷◌, ◌++◌, [], codes, decimal, OnOk};
-ghost use Rattle.std.specs.Fmt.{signed_decimal};
-ghost use Rattle.text_tokens.specs.Lines.{line_text, LineIsItsTokens, SectionIsItsLines, SmallSections, TextsAddUp};
+ghost use Rattle.std.specs.{Prelude.{◌≡◌, ◌∷◌, ◌++◌, [], codes, decimal, OnOk}, Fmt.{signed_decimal}};
+ghost use Rattle.text_tokens.specs.Lines.{line_text, LineIsItsTokens, SectionIsItsLines, SmallSections};
+ghost use Rattle.text_tokens.specs.Lines.{TextsAddUp};
 
 use crate::room::{put, put_digits};
 use itoa::{Buffer, Integer};

@@ -1,8 +1,8 @@
 //! Why a text is refused.
 
 ghost use Rattle.std.specs.Prelude.{◌≡◌};
-ghost use Rattle.text_tokens.specs.Kinds as kinds;
 ghost use Rattle.text_tokens.specs.declared.refusal.ReadRefusal.TheVariants.{NoMemory, Refused};
+ghost use Rattle.text_tokens.specs.Kinds as kinds;
 
 use std::alloc::{AllocError, AllocFailed};
 

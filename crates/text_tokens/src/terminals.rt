@@ -1,10 +1,9 @@
 //! Parts of one token. They take no memory, so they never answer out of memory.
 
 ghost use Rattle.std.specs.Prelude.{◌≡◌, ◌≢◌, ◌<◌, ◌≤◌, IfErr, IfOk};
-ghost use Rattle.text_tokens.specs.Steps.{Gives, lexeme_of};
-ghost use Rattle.text_tokens.specs.Cursor.{IsShort, is_the};
-ghost use Rattle.text_tokens.specs.Reading as reading;
+ghost use Rattle.text_tokens.specs.{Steps.{Gives, lexeme_of}, Cursor.{IsShort, is_the}};
 ghost use Rattle.text_tokens.specs.declared.refusal.ReadRefusal.TheVariants.{NoMemory, Refused};
+ghost use Rattle.text_tokens.specs.Reading as reading;
 
 use crate::refusal::{ReadRefusal, Refusal, RefusalKind};
 use crate::token::{Token, TokenKind};

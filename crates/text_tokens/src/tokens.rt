@@ -1,16 +1,15 @@
 //! A cursor over the tokens of a text, which cuts each as it is reached.
 
-ghost use Rattle.std.specs.Prelude.{◌≡◌, ◌<◌, ◌≤◌, ◌+◌, ◌^◌, ℕ, get_or, length, take, drop, IfOk, IfSome, OnOk, OnErr, List, Ok, Err, true, false};
-ghost use Rattle.std.specs.List.{list_all, prefix_len};
+ghost use Rattle.std.specs.Prelude.{◌≡◌, ◌<◌, ◌≤◌, ◌+◌, ◌^◌, ℕ, get_or, length, take, drop, IfOk, IfSome};
+ghost use Rattle.std.specs.{Prelude.{OnOk, OnErr, List, Ok, Err, true, false}, List.{list_all, prefix_len}};
 ghost use Rattle.std.specs.Str.{bytes_eq};
 ghost use Rattle.text_tokens.specs.declared.token.TokenKind.TheVariants.{Number, Word};
-ghost use Rattle.text_tokens.specs.declared.token.Token.{Token};
+ghost use Rattle.text_tokens.specs.{declared.token.Token.{Token}, Inside.{HasItsNumber, piece_of}};
+ghost use Rattle.text_tokens.specs.Cursor.{AreCut, IsAtFront, IsDigits, IsShort, IsSlice, Spells};
+ghost use Rattle.text_tokens.specs.Cursor.{number_value, next_passes, is_the, is_kind, expect};
 ghost use Rattle.text_tokens.specs.Text as text;
 ghost use Rattle.text_tokens.specs.Scan as scan;
 ghost use Rattle.text_tokens.specs.Cursor as cursor;
-ghost use Rattle.text_tokens.specs.Inside.{HasItsNumber, piece_of};
-ghost use Rattle.text_tokens.specs.Cursor.{AreCut, IsAtFront, IsDigits, IsShort, IsSlice, Spells, number_value};
-ghost use Rattle.text_tokens.specs.Cursor.{next_passes, is_the, is_kind, expect};
 
 use crate::refusal::{Refusal, RefusalKind};
 use crate::token::{Token, TokenKind};

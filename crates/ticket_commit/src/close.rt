@@ -1,9 +1,7 @@
 //! How a field ends on which commits draw their places.
-ghost use Rattle.std.specs.Prelude.{IsSome, map};
-ghost use Rattle.std.specs.List.{All};
+ghost use Rattle.std.specs.{Prelude.{IsSome, map}, List.{All}};
 ghost use Rattle.claim_core.specs.Merges.{IsMerge};
-ghost use Rattle.claim_rule.specs.Manners.{by_ticket};
-ghost use Rattle.claim_rule.specs.Seating.{AreOf};
+ghost use Rattle.claim_rule.specs.{Manners.{by_ticket}, Seating.{AreOf}};
 ghost use Rattle.claim_rule.specs.Closing.{ClosesAs, HoldNothing, EndsRight};
 ghost use Rattle.ticket_commit.specs.Own.{own_at_seat};
 

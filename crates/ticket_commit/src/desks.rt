@@ -1,7 +1,6 @@
 ghost use Rattle.std.specs.Prelude.{◌≡◌, ◌≤◌, length, map, [], None, IfOk, IsSome, vec_len, vec_capacity};
 ghost use Rattle.std.specs.List.{All};
-ghost use Rattle.turn_desks.specs.Turns.{lists_told};
-ghost use Rattle.turn_desks.specs.Desks.{AreClear, AreTaken, seat_at, turns_at};
+ghost use Rattle.turn_desks.specs.{Turns.{lists_told}, Desks.{AreClear, AreTaken, seat_at, turns_at}};
 
 use crate::activating::TicketTurn;
 use crate::seat::TicketSeat;

@@ -1,8 +1,6 @@
-ghost use Rattle.std.specs.Prelude.{◌≡◌, ◌≤◌, length, IfOk, IsSome};
-ghost use Rattle.std.specs.List.{All};
+ghost use Rattle.std.specs.{Prelude.{◌≡◌, ◌≤◌, length, IfOk, IsSome}, List.{All}};
 ghost use Rattle.amoebot_state.specs.Configs.{bot_at};
-ghost use Rattle.claim_rule.specs.Views.{field_terms};
-ghost use Rattle.claim_rule.specs.Opened.{first_seats};
+ghost use Rattle.claim_rule.specs.{Views.{field_terms}, Opened.{first_seats}};
 
 use crate::own::own_lists;
 use crate::seats::TicketSeats;

@@ -1,9 +1,7 @@
 //! The list in which a caller keeps what it committed.
-ghost use Rattle.std.specs.Prelude.{◌≡◌, ◌+◌, ◌<◌, ◌≤◌, ℕ, ◌∷◌, ◌++◌, ◌↔◌, [], length, drop, slice_get, Some, IfOk, IsTrue, vec_len, vec_capacity};
-ghost use Rattle.std.specs.List.{All};
-ghost use Rattle.amoebot_state.specs.Limits.{most_pairs};
-ghost use Rattle.amoebot_state.specs.Pairs.{triples_alike};
-ghost use Rattle.amoebot_state.specs.Steps.{entry_of};
+ghost use Rattle.std.specs.Prelude.{◌≡◌, ◌+◌, ◌<◌, ◌≤◌, ℕ, ◌∷◌, ◌++◌, ◌↔◌, [], length, drop, slice_get, Some};
+ghost use Rattle.std.specs.{Prelude.{IfOk, IsTrue, vec_len, vec_capacity}, List.{All}};
+ghost use Rattle.amoebot_state.specs.{Limits.{most_pairs}, Pairs.{triples_alike}, Steps.{entry_of}};
 ghost use Rattle.ticket_commit.specs.OwnLists.{OwnEntries, BeginsAt};
 
 use amoebot_state::{Cell, CellName, Change, Entry, MOST_PAIRS, Moved, NoMemory, Patch};
@@ -38,8 +36,7 @@ pub(crate) struct OwnList {
 
 impl Model for OwnList {
     ghost use Rattle.std.specs.Prelude.{◌-◌, drop, vec_len, vec_capacity};
-    ghost use Rattle.ticket_commit.specs.OwnLists.{OwnEntries};
-    ghost use Rattle.ticket_commit.specs.Packed.{unpacked, IsPacked};
+    ghost use Rattle.ticket_commit.specs.{OwnLists.{OwnEntries}, Packed.{unpacked, IsPacked}};
 
     ghost Value = { OwnEntries };
 

@@ -1,7 +1,5 @@
-ghost use Rattle.std.specs.Prelude.{◌≡◌, ◌↔◌, slice_get, slice_set, IfSome, Some, None};
-ghost use Rattle.std.specs.List.{All};
-ghost use Rattle.claim_rule.specs.Tokens.{number_in};
-ghost use Rattle.claim_rule.specs.Seating.{IsFirst};
+ghost use Rattle.std.specs.{Prelude.{◌≡◌, ◌↔◌, slice_get, slice_set, IfSome, Some, None}, List.{All}};
+ghost use Rattle.claim_rule.specs.{Tokens.{number_in}, Seating.{IsFirst}};
 
 use crate::own::OwnList;
 use crate::seat::TicketSeat;

@@ -1,9 +1,6 @@
-ghost use Rattle.std.specs.Prelude.{IfOk, IsSome};
-ghost use Rattle.std.specs.List.{All};
+ghost use Rattle.std.specs.{Prelude.{IfOk, IsSome}, List.{All}};
 ghost use Rattle.amoebot_state.specs.Configs.{bot_at};
-ghost use Rattle.claim_core.specs.Good.{Good};
-ghost use Rattle.claim_core.specs.Reached.{Reached};
-ghost use Rattle.claim_core.specs.Tickets.{TicketReached};
+ghost use Rattle.claim_core.specs.{Good.{Good}, Reached.{Reached}, Tickets.{TicketReached}};
 ghost use Rattle.claim_rule.specs.Views.{setup_for};
 ghost use Rattle.turn_desks.specs.Turns.{AreTurnsOf};
 

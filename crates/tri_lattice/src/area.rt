@@ -1,6 +1,6 @@
 ghost use Rattle.std.specs.Prelude.{◌≡◌, ℕ, ◌<◌, ◌↔◌, ◌*◌, ◌-ℤ◌, Decides, IfSome, IsSome, IsTrue};
-ghost use Rattle.tri_lattice.specs.Extent.{Extent, IsArea, index_of, is_in, is_amid, is_amid_side, node_at, axis_offset as place_of};
-ghost use Rattle.tri_lattice.specs.Lattice.{step};
+ghost use Rattle.tri_lattice.specs.Extent.{Extent, IsArea, index_of, is_in, is_amid, is_amid_side, node_at};
+ghost use Rattle.tri_lattice.specs.{Extent.{axis_offset as place_of}, Lattice.{step}};
 
 use crate::node::Node;
 use std::marker::Model;

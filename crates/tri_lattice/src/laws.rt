@@ -1,7 +1,8 @@
-ghost use Rattle.tri_lattice.specs.Laws.{OppositeLeadsBack, NextNeighboursMeet, NeighboursAreDistinct, StepsLeave};
-ghost use Rattle.tri_lattice.specs.Laws.{AdjacencyIsSymmetric, NeighboursAreAtOne, NodeTestIsEquality};
-ghost use Rattle.tri_lattice.specs.Laws.{AdjacentTestIsAdjacency, BoxIsItsBounds, NumberCountsRows, NodesHaveNumbers};
-ghost use Rattle.tri_lattice.specs.Laws.{NumbersHaveNodes, SameKeeps, PuttingKeeps, FewAreConnected};
+ghost use Rattle.tri_lattice.specs.Laws.{OppositeLeadsBack, NextNeighboursMeet, NeighboursAreDistinct};
+ghost use Rattle.tri_lattice.specs.Laws.{StepsLeave, AdjacencyIsSymmetric, NeighboursAreAtOne};
+ghost use Rattle.tri_lattice.specs.Laws.{NodeTestIsEquality, AdjacentTestIsAdjacency, BoxIsItsBounds};
+ghost use Rattle.tri_lattice.specs.Laws.{NumberCountsRows, NodesHaveNumbers, NumbersHaveNodes, SameKeeps};
+ghost use Rattle.tri_lattice.specs.Laws.{PuttingKeeps, FewAreConnected};
 
 /// What holds of steps, neighbours and distances.
 pub fn lattice_laws()

@@ -1,9 +1,7 @@
-ghost use Rattle.std.specs.Prelude.{◌≡◌, ◌≤◌, ◌<◌, ◌+◌, length, map};
-ghost use Rattle.std.specs.List.{All};
+ghost use Rattle.std.specs.{Prelude.{◌≡◌, ◌≤◌, ◌<◌, ◌+◌, length, map}, List.{All}};
 ghost use Rattle.claim_core.specs.Turns.{AreFew, marks_of, no_marks};
 ghost use Rattle.node_claims.specs.Answers.{mark_of};
-ghost use Rattle.turn_desks.specs.Turns.{lists_told, marks_in};
-ghost use Rattle.turn_desks.specs.Desks.{with_marks};
+ghost use Rattle.turn_desks.specs.{Turns.{lists_told, marks_in}, Desks.{with_marks}};
 
 use crate::turning::Turning;
 use amoebot_state::Decider;

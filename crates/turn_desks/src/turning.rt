@@ -1,7 +1,6 @@
 ghost use Rattle.std.specs.Prelude.{◌≡◌};
 ghost use Rattle.claim_rule.specs.Tokens.{FieldOf, Token};
-ghost use Rattle.node_claims.specs.declared.turn.Turn.{Turn};
-ghost use Rattle.node_claims.specs.Answers.{mark_of};
+ghost use Rattle.node_claims.specs.{declared.turn.Turn.{Turn}, Answers.{mark_of}};
 
 use amoebot_state::Decider;
 use claim_core::Mark;

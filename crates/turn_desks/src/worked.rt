@@ -1,8 +1,6 @@
 //! What the workers leave, and what is left where there are none.
 ghost use Rattle.std.specs.Prelude.{◌≡◌, [], length, IfOk};
-ghost use Rattle.claim_core.specs.Good.{Good};
-ghost use Rattle.claim_core.specs.Reached.{Reached};
-ghost use Rattle.claim_core.specs.Tickets.{TicketReached};
+ghost use Rattle.claim_core.specs.{Good.{Good}, Reached.{Reached}, Tickets.{TicketReached}};
 ghost use Rattle.claim_rule.specs.Views.{setup_for};
 
 use crate::turns::Turns;

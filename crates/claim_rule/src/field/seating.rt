@@ -1,10 +1,9 @@
 //! How the records of callers are dealt to seats, and gathered again.
 //! Each is a load of word 0, which changes nothing in the table.
 ghost use Rattle.std.specs.Prelude.{◌≡◌, List, [], ◌∷◌};
-ghost use Rattle.claim_rule.specs.declared.views.Record.{Record as RecordValue};
-ghost use Rattle.claim_rule.specs.Views.{view_of};
-ghost use Rattle.claim_rule.specs.Seating.{spent};
+ghost use Rattle.claim_rule.specs.{Views.{view_of}, Seating.{spent}};
 ghost use Rattle.claim_rule.specs.Internal.{dealt, joined_view, left_view};
+ghost use Rattle.claim_rule.specs.declared.views.Record.Record as RecordValue;
 
 use crate::field::Field;
 use crate::manner::Manner;

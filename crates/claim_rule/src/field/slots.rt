@@ -4,10 +4,9 @@ ghost use Rattle.std.specs.Prelude.{◌≡◌, ◌∷◌, false, length};
 ghost use Rattle.amoebot_state.specs.declared.cell.Cell.{Cell};
 ghost use Rattle.atomic_table.specs.Table.{rest};
 ghost use Rattle.claim_core.specs.Turns.{Kept};
-ghost use Rattle.claim_rule.specs.declared.views.Slot.TheVariants as filling;
-ghost use Rattle.claim_rule.specs.Stands.{journal_slot};
-ghost use Rattle.claim_rule.specs.Commits.{HasRoomForEntry, IsPushed};
+ghost use Rattle.claim_rule.specs.{Stands.{journal_slot}, Commits.{HasRoomForEntry, IsPushed}};
 ghost use Rattle.claim_rule.specs.Internal.{IsSameSeat};
+ghost use Rattle.claim_rule.specs.declared.views.Slot.TheVariants as filling;
 
 use crate::field::Field;
 use crate::manner::Manner;

@@ -1,12 +1,11 @@
 //! The steps on words that callers make.
 ghost use Rattle.std.specs.Prelude.{◌≡◌, ◌<◌, ◌≤◌, ◌*◌};
-ghost use mathlib.Core.Option.{none};
+ghost use mathlib.Core.Option.none;
 ghost use Rattle.atomic_table.specs.Table.{step};
-ghost use Rattle.claim_core.specs.Cells.{cells};
-ghost use Rattle.claim_core.specs.Limits.{most_turns};
-ghost use Rattle.claim_rule.specs.Views.{own, goes_on};
-ghost use Rattle.claim_rule.specs.Stands.{journal_slot};
-ghost use Rattle.claim_rule.specs.Plays.{IsToTry, IsToFree, IsToRead, about, marked_at, Claims, Releases, ReadsLength};
+ghost use Rattle.claim_core.specs.{Cells.{cells}, Limits.{most_turns}};
+ghost use Rattle.claim_rule.specs.{Views.{own, goes_on}, Stands.{journal_slot}};
+ghost use Rattle.claim_rule.specs.Plays.{IsToTry, IsToFree, IsToRead, about, marked_at, Claims, Releases};
+ghost use Rattle.claim_rule.specs.Plays.{ReadsLength};
 ghost use Rattle.claim_rule.specs.Commits.{Takes, IsToCommit, TriesJournal, stored, drew};
 ghost use Rattle.claim_rule.specs.Internal.{MayStep, IsSameSeat};
 
