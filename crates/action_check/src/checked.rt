@@ -20,7 +20,7 @@ pub struct Checked {
 impl Model for Checked {
     ghost use Rattle.std.specs.Prelude.{◌≡◌, true};
     ghost use Rattle.action_tree.specs.Stored.{program_code};
-    ghost use Rattle.action_tree.specs.Trees.Program as Tree;
+    ghost use Rattle.action_tree.specs.Trees.{Program as Tree};
 
     ghost Value = { Tree };
 

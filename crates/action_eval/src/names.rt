@@ -31,7 +31,7 @@ impl<'p> Names<'p> {
     ghost use Rattle.action_tree.specs.{Places.{is_at_place}, declared.word.Word.{Word}};
     ghost use Rattle.action_check.specs.Rules.{IsInForce, IsVariable};
     ghost use Rattle.action_meaning.specs.Names.{var_number, port_named, bind as spec_bind};
-    ghost use Rattle.action_meaning.specs.Names.Names as Known;
+    ghost use Rattle.action_meaning.specs.Names.{Names as Known};
     ghost use Rattle.action_eval.specs.{Known.{known, scope_of}, UnderNames.{IsUnder}};
 
     /// The names at the start of an action: no name is in force.

@@ -29,7 +29,7 @@ pub struct Runner {
 
 impl Model for Runner {
     ghost use Rattle.action_tree.specs.Stored.{program_code};
-    ghost use Rattle.action_tree.specs.Trees.Program as Tree;
+    ghost use Rattle.action_tree.specs.Trees.{Program as Tree};
 
     ghost Value = { Tree };
 

@@ -37,7 +37,7 @@ pub struct Program {
 impl Model for Program {
     ghost use Rattle.std.specs.Prelude.{◌≡◌, true};
     ghost use Rattle.action_tree.specs.Stored.{program_code};
-    ghost use Rattle.action_tree.specs.Trees.Program as Tree;
+    ghost use Rattle.action_tree.specs.Trees.{Program as Tree};
 
     ghost Value = { Tree };
 

@@ -7,7 +7,7 @@ ghost use Rattle.outer_io.specs.Told.{Rose};
 ghost use Rattle.shape_files.specs.Documents.{Contents};
 ghost use Rattle.commands.specs.{Syntax.{begins_with_dash}, Commands.{IsDocumentOf, ReadsNothing, limit_for}};
 ghost use Rattle.commands.specs.Reads.{nothing, whole};
-ghost use Rattle.commands.specs.declared.words.DocumentCommand.DocumentCommand as DocumentCommandValue;
+ghost use Rattle.commands.specs.declared.words.DocumentCommand.{DocumentCommand as DocumentCommandValue};
 ghost use Rattle.amoebot_run.specs.Clauses.{CameTo, WroteAll, WroteFront, asked};
 ghost use Rattle.amoebot_run.specs.Endings.{EndingTells, HasText, IsEnding, IsOutsideFault, IsReadingOf};
 ghost use Rattle.amoebot_run.specs.Endings.{IsReportOfCall, IsServed, IsUnwritten};

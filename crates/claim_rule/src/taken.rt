@@ -1,6 +1,6 @@
 ghost use Rattle.std.specs.Prelude.{◌≡◌, ◌<◌, IfOk, IfErr};
 ghost use Rattle.amoebot_state.specs.Steps.{change_of};
-ghost use Rattle.amoebot_state.specs.declared.verdict.Change.Change as ChangeValue;
+ghost use Rattle.amoebot_state.specs.declared.verdict.Change.{Change as ChangeValue};
 ghost use Rattle.claim_core.specs.declared.state.Phase.TheVariants.{Committing};
 ghost use Rattle.claim_rule.specs.{Tokens.{IsOf, doing}, Commits.{IsTakenElsewhere}};
 ghost use Rattle.claim_rule.specs.Settling.{HasGot, HasStored, IsToTake};

@@ -11,7 +11,7 @@ ghost use Rattle.shape_files.specs.LeastVersions.{DecidedFromEach, EarlierIsBadR
 ghost use Rattle.shape_files.specs.LeastVersions.{DocumentIsLater, LaterHasOldValues};
 ghost use Rattle.shape_files.specs.FrameLaws.{AreSections, FrameLaw, HeaderIsDecided, StraightLaw};
 ghost use Rattle.shape_files.specs.FrameLaws.{FormsAreDistinct};
-ghost use Rattle.shape_files.specs.declared.section_kind.Section.Section as SectionValue;
+ghost use Rattle.shape_files.specs.declared.section_kind.Section.{Section as SectionValue};
 
 /// The sections of a document, each in the state that those before it gave,
 /// with what it makes of the state.

@@ -1,7 +1,7 @@
 //! The merge of the callers' own lists by place.
 ghost use Rattle.std.specs.Prelude.{◌≡◌, ◌++◌, List};
 ghost use Rattle.amoebot_state.specs.Steps.{Run};
-ghost use Rattle.amoebot_state.specs.declared.verdict.Entry.Entry as Committed;
+ghost use Rattle.amoebot_state.specs.declared.verdict.Entry.{Entry as Committed};
 ghost use Rattle.claim_core.specs.Merges.{IsMerge};
 ghost use Rattle.ticket_commit.specs.OwnLists.{entry_lists, HasMerge, IsListAt};
 

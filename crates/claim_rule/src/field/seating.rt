@@ -3,7 +3,7 @@
 ghost use Rattle.std.specs.Prelude.{◌≡◌, List, [], ◌∷◌};
 ghost use Rattle.claim_rule.specs.{Views.{view_of}, Seating.{spent}};
 ghost use Rattle.claim_rule.specs.Internal.{dealt, joined_view, left_view};
-ghost use Rattle.claim_rule.specs.declared.views.Record.Record as RecordValue;
+ghost use Rattle.claim_rule.specs.declared.views.Record.{Record as RecordValue};
 
 use crate::field::Field;
 use crate::manner::Manner;
