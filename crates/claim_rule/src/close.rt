@@ -1,8 +1,8 @@
 //! How a field ends.
 ghost use Rattle.std.specs.{Prelude.{◌≡◌, ◌+◌, ℕ, List, [], slice_get, Some, IsSome}, List.{All}};
 ghost use Rattle.std.specs.Slots.{slots_items, slots_len, IsFull};
-ghost use lib.ListN.get_elem?;
-ghost use mathlib.Core.Option.some;
+ghost use lib.ListN.{get_elem?};
+ghost use mathlib.Core.Option.{some};
 ghost use Rattle.amoebot_state.specs.{Configs.{Config}, Steps.{Run}};
 ghost use Rattle.claim_core.specs.{Soundness.{IsSetup}, Turns.{Kept}};
 ghost use Rattle.claim_rule.specs.{Manners.{by_journal, by_ticket}, declared.views.Record.{Record}};

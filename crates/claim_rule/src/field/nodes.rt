@@ -1,6 +1,6 @@
 //! The steps on nodes' words.
 ghost use Rattle.std.specs.Prelude.{◌≡◌};
-ghost use mathlib.Core.Option.none;
+ghost use mathlib.Core.Option.{none};
 ghost use Rattle.atomic_table.specs.Table.{step};
 ghost use Rattle.claim_rule.specs.Manners.{by_journal};
 ghost use Rattle.claim_rule.specs.Plays.{IsToTryNode, IsToWin, IsToFreeNode, LooksAt, TriesNode};

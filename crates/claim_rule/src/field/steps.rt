@@ -1,6 +1,6 @@
 //! The steps on words that callers make.
 ghost use Rattle.std.specs.Prelude.{◌≡◌, ◌<◌, ◌≤◌, ◌*◌};
-ghost use mathlib.Core.Option.none;
+ghost use mathlib.Core.Option.{none};
 ghost use Rattle.atomic_table.specs.Table.{step};
 ghost use Rattle.claim_core.specs.{Cells.{cells}, Limits.{most_turns}};
 ghost use Rattle.claim_rule.specs.{Views.{own, goes_on}, Stands.{journal_slot}};
