@@ -1,6 +1,0 @@
-use Rattle.std.specs.List.{All}
-use Rattle.amoebot_state.specs.Refusals.{IsBotInRange}
-use Rattle.claim_tests.proofs.tables.bots_of.Given as goal
-
-abbrev pub invariant-loop-place : goal.invariant-loop-place
-invariant-loop-place l = record { plain : All IsBotInRange l.bots.items }

@@ -1,2 +1,0 @@
-pub mod Dragging
-pub mod DraggingLaws

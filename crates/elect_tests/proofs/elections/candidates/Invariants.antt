@@ -1,6 +1,0 @@
-use Rattle.std.specs.List.{All}
-use Rattle.amoebot_state.specs.Refusals.{IsBotInRange}
-use Rattle.elect_tests.proofs.elections.candidates.Given as goal
-
-abbrev pub invariant-loop-place : goal.invariant-loop-place
-invariant-loop-place l = record { plain : All IsBotInRange l.bots.items }

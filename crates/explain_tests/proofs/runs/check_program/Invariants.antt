@@ -1,5 +1,0 @@
-use Rattle.std.proofs.Common.{◌≤◌, ◌*◌}
-use Rattle.explain_tests.proofs.runs.check_program.Given as goal
-
-abbrev pub invariant-loop-seed : goal.invariant-loop-seed
-invariant-loop-seed g l = record { few : l.entries ≤ 40 * l.seed }

@@ -1,8 +1,0 @@
-use Rattle.std.proofs.Common.{◌≤◌}
-use Rattle.explain_tests.proofs.runs.take_turns.Given as goal
-
-abbrev pub invariant-loop : goal.invariant-loop
-invariant-loop g l = record {
-  fed : l.meter.state.fed ≤ l.counter;
-  few : l.entries ≤ l.counter;
-}

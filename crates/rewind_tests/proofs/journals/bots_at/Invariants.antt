@@ -1,6 +1,0 @@
-use Rattle.std.specs.List.{All}
-use Rattle.amoebot_state.specs.Refusals.{IsBotInRange}
-use Rattle.rewind_tests.proofs.journals.bots_at.Given as goal
-
-abbrev pub invariant-loop-place : goal.invariant-loop-place
-invariant-loop-place l = record { plain : All IsBotInRange l.bots.items }

@@ -1,0 +1,3 @@
+pub mod Dragging
+pub mod DraggingLaws
+pub mod Walks

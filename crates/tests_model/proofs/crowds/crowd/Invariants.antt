@@ -1,0 +1,12 @@
+use Rattle.std.specs.List.{All}
+use Rattle.amoebot_state.specs.Refusals.{IsBotInRange}
+use Rattle.tests_model.proofs.crowds.crowd.Given as goal
+
+abbrev pub invariant-loop-y : goal.invariant-loop-y
+invariant-loop-y l = record { plain : All IsBotInRange l.bots.items }
+
+abbrev pub invariant-loop-time : goal.invariant-loop-time
+invariant-loop-time l = record { plain : All IsBotInRange l.bots.items }
+
+abbrev pub invariant-loop-head : goal.invariant-loop-head
+invariant-loop-head l = record { plain : All IsBotInRange l.bots.items }

@@ -1,0 +1,6 @@
+use Rattle.std.specs.List.{All}
+use Rattle.amoebot_state.specs.Refusals.{IsBotInRange}
+use Rattle.tests_model.proofs.rounds.bots_at.Given as goal
+
+abbrev pub invariant-loop-place : goal.invariant-loop-place
+invariant-loop-place l = record { plain : All IsBotInRange l.bots.items }

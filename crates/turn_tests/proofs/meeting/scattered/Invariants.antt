@@ -1,7 +1,0 @@
-use Rattle.std.proofs.Common.{◌≡◌, length}
-use Rattle.std.specs.List.{All}
-use Rattle.amoebot_state.specs.Refusals.{IsBotInRange}
-use Rattle.turn_tests.proofs.meeting.scattered.Given as goal
-
-abbrev pub invariant-loop-number : goal.invariant-loop-number
-invariant-loop-number l = All IsBotInRange l.bots.items × (length l.bots.items ≡ l.number)

@@ -1,5 +1,0 @@
-use Rattle.model_ops.specs.WorkingCopies.{IsUnmoved}
-use Rattle.world_tests.proofs.operations.activation.Given as goal
-
-abbrev pub invariant-loop-port : goal.invariant-loop-port
-invariant-loop-port l = IsUnmoved l.site
