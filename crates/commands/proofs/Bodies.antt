@@ -7,7 +7,7 @@ use Rattle.tri_lattice.specs.Extent.{IsArea}
 use Rattle.amoebot_state.specs.declared.bot.Bot.{Bot}
 use Rattle.amoebot_state.specs.Configs.{Config, IsBot, frame, has_values}
 use Rattle.amoebot_state.specs.Limits.{most_vars, most_value}
-use Rattle.node_text.specs.PartLimits.{HasLimits}
+use Rattle.shape_text.specs.PartLimits.{HasLimits}
 use Rattle.shape_text.proofs.WithinLimits.{has_coordinates, below_max, small_values}
 
 -- ---- values

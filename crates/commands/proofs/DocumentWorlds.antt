@@ -3,7 +3,7 @@ use Rattle.std.proofs.Common.{◌≡◌, ◌≤◌, false, [], Option, Some, sub
 use Rattle.std.specs.Option.{IfSome}
 use Rattle.amoebot_state.specs.Configs.{Config}
 use Rattle.amoebot_state.specs.Limits.{most_vars}
-use Rattle.node_text.specs.Parts.{may_have_walls}
+use Rattle.shape_text.specs.Parts.{may_have_walls}
 use Rattle.action_tree.specs.Trees.{Program}
 use Rattle.action_check.specs.Faults.{faults}
 use Rattle.action_check.specs.Maxes.{maxes_of}

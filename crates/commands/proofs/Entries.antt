@@ -33,7 +33,7 @@ use Rattle.claim_core.specs.Good.{IsListed}
 use Rattle.journal_text.specs.Limits.{last_caller, last_turn}
 use Rattle.journal_text.specs.Journals.{ids_of_change, ids_of_name, ids_of_value, named_ids}
 use Rattle.journal_text.specs.Texts.{change_in_full, written_full}
-use Rattle.node_text.specs.PartLimits.{HasLimits}
+use Rattle.shape_text.specs.PartLimits.{HasLimits}
 use Rattle.journal_text.specs.Rereading.{IsWritablePair, IsWritableChange, IsPossible, KeepsLimits}
 use Rattle.action_tree.specs.Trees.{Program}
 use Rattle.action_meaning.specs.Verdicts.{verdict_shown}

@@ -16,7 +16,7 @@ use Rattle.claim_core.specs.declared.report.Report.{Report}
 use Rattle.claim_core.proofs.Places.{one_at}
 use Rattle.action_tree.specs.Trees.{Program}
 use Rattle.action_meaning.specs.Verdicts.{verdict_shown}
-use Rattle.node_text.specs.Parts.{has_old_values}
+use Rattle.shape_text.specs.Parts.{has_old_values}
 use Rattle.shape_files.specs.Documents.{Contents}
 use Rattle.shape_files.specs.Fitting.{FitTogether}
 use Rattle.commands.specs.declared.words.DocumentCommand.{DocumentCommand}

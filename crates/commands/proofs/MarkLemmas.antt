@@ -27,7 +27,7 @@ use Rattle.claim_core.specs.Limits.{most_callers, most_turns}
 use Rattle.claim_core.specs.Turns.{CallerLists, MarkLists, AreFew, HaveBots, bot_of_turn, list_of, marks_of}
 use Rattle.claim_core.specs.Good.{IsWorldAt, HasVerdict, HasInZone, TurnOk, AllTurns, AreMarks}
 use Rattle.text_tokens.specs.Cursor.{IsShort}
-use Rattle.node_text.specs.Parts.{may_have_walls}
+use Rattle.shape_text.specs.Parts.{may_have_walls}
 use Rattle.journal_text.specs.Rereading.{IsWritableCell, IsWritableFailure, IsWritableMark, AreWritable}
 use Rattle.shape_text.proofs.WithinLimits.{has_coordinates}
 use Rattle.claim_core.proofs.Frames.{IsFramed, framed_on}

@@ -7,7 +7,7 @@ use Rattle.amoebot_state.specs.declared.verdict.Entry.{Entry}
 use Rattle.amoebot_state.specs.declared.verdict.PlainEntry.{PlainEntry}
 use Rattle.amoebot_state.specs.Configs.{Config}
 use Rattle.serial_model.specs.Replays.{AreCountable}
-use Rattle.node_text.specs.Parts.{has_old_values}
+use Rattle.shape_text.specs.Parts.{has_old_values}
 use Rattle.journal_text.specs.Texts.{written_full, written_plain}
 use Rattle.shape_files.specs.Documents.{Contents, actions_of, bots_of}
 use Rattle.shape_files.specs.Fitting.{AreEntriesOf, FitTogether, HasJournal, HasJournalBy}

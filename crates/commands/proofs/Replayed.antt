@@ -11,7 +11,7 @@ use Rattle.claim_core.specs.declared.report.Report.{Report}
 use Rattle.claim_core.specs.Limits.{most_turns}
 use Rattle.claim_core.specs.Turns.{CallerLists, AreFew, AreLists, HaveBots}
 use Rattle.claim_core.specs.Good.{Good}
-use Rattle.node_text.specs.Parts.{may_have_walls, has_old_values}
+use Rattle.shape_text.specs.Parts.{may_have_walls, has_old_values}
 use Rattle.journal_text.specs.Rereading.{KeepsLimits, PlainKeepsLimits}
 use Rattle.journal_text.specs.Texts.{written_by, written_full, journal_of_version, turns_text}
 use Rattle.shape_text.specs.Texts.{shape_text}

@@ -9,7 +9,7 @@ use Rattle.amoebot_state.specs.declared.verdict.Entry.{Entry}
 use Rattle.amoebot_state.specs.Configs.{Config, IsValid, bot_at}
 use Rattle.amoebot_state.specs.Limits.{most_bots}
 use Rattle.serial_model.specs.Forms.{full_entry}
-use Rattle.node_text.specs.Parts.{has_old_values}
+use Rattle.shape_text.specs.Parts.{has_old_values}
 use Rattle.amoebot_state.specs.Steps.{HasPatchedWorld, OldValuesAreFound, plain_entry}
 use Rattle.amoebot_state.proofs.Options.{there_is}
 use Rattle.model_ops.specs.Laws.{ActsKeepDeciderLaws}

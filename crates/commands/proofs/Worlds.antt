@@ -10,8 +10,8 @@ use Rattle.amoebot_state.specs.declared.verdict.Verdict.{Verdict}
 use Rattle.amoebot_state.specs.Configs.{Config, bot_at}
 use Rattle.amoebot_state.specs.Zones.{Shown}
 use Rattle.amoebot_state.specs.Steps.{Step, Run}
-use Rattle.node_text.specs.Parts.{may_have_walls}
-use Rattle.node_text.specs.PartLimits.{HasLimits}
+use Rattle.shape_text.specs.Parts.{may_have_walls}
+use Rattle.shape_text.specs.PartLimits.{HasLimits}
 use Rattle.shape_text.specs.Rereading as shape
 use Rattle.action_tree.specs.Trees.{Var, Program}
 use Rattle.amoebot_state.specs.Limits.{most_value, most_bots, most_vars}

@@ -14,8 +14,7 @@ use action_eval::Runner;
 use amoebot_state::{Entry, NoMemory};
 use claim_core::{Lists, Report};
 use journal_text::{put_journal, put_plain, put_turns};
-use node_text::has_old_values;
-use shape_text::put_shape;
+use shape_text::{has_old_values, put_shape};
 use std::alloc::{AllocError, Global};
 use text_tokens::{Lines, Text};
 

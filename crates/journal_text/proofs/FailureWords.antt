@@ -7,7 +7,7 @@ use Rattle.text_tokens.specs.declared.token.TokenKind.TheVariants.{Word}
 use Rattle.text_tokens.proofs.PrintedTokens.{kind_of, IsOneToken, word_is_token}
 use Rattle.amoebot_state.specs.declared.verdict.Failure.{Failure}
 use Rattle.amoebot_state.specs.declared.verdict.Failure.TheVariants as failure
-use Rattle.node_text.specs.Parts.{may_have_walls}
+use Rattle.shape_text.specs.Parts.{may_have_walls}
 use Rattle.journal_text.specs.Texts.{failure_word}
 use Rattle.journal_text.specs.Turns.{failure_words, names_failure}
 use Rattle.journal_text.specs.Rereading.{IsWritableFailure}

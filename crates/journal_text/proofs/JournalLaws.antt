@@ -21,11 +21,11 @@ use Rattle.amoebot_state.specs.declared.cell.Cell.{Cell}
 use Rattle.amoebot_state.specs.declared.cell.Cell.TheVariants as cell
 use Rattle.amoebot_state.specs.declared.verdict.Moved.{Moved}
 use Rattle.amoebot_state.specs.declared.verdict.Moved.TheVariants as moved
-use Rattle.node_text.specs.Parts.{word, is_end, one_more, IsWord, IsNumber, IsNode}
+use Rattle.shape_text.specs.Parts.{word, is_end, one_more, IsWord, IsNumber, IsNode}
 use Rattle.journal_text.specs.Journals.{IsPortBehind, IsEndBehind, IsMovedBy, IsContracted, IsMoved, is_spot_word, is_body_word, is_cell, IsCellText, IsOccupant, IsValueOf, IsOldValue, WrittenChange, written_change, IsPair, is_entry, numbers_of, AreNumbers, WrittenEntry, Written, written_entry, past_entries, IsEntryWord, IsWrittenEntry, entry_fault, IsEntryBy, AreEntriesBy, IsJournalOf, entry_by, IsJournal, plain_by, IsPlainJournal}
-use Rattle.node_text.specs.PartReaders.{a_word}
+use Rattle.shape_text.specs.PartReaders.{a_word}
 use Rattle.journal_text.specs.Readers.{port_behind, end_behind, moved_by, a_contraction, a_movement, a_cell, an_occupant, a_value, an_old_value, a_pair, pair_in, all_pairs, the_numbers, entry_word, a_written_entry, an_entry, entries_from, journal_by, journal, plain_journal}
-use Rattle.node_text.proofs.PartLaws.{up_to_end, starts_word, part_word, part_word_within, starts_word_within, part_number, starts_means, number_no_word, part_end, part_node, part_port, part_bot}
+use Rattle.shape_text.proofs.PartLaws.{up_to_end, starts_word, part_word, part_word_within, starts_word_within, part_number, starts_means, number_no_word, part_end, part_node, part_port, part_bot}
 
 -- ---- movements
 

@@ -27,17 +27,17 @@ use Rattle.amoebot_state.specs.declared.verdict.Moved.TheVariants as moved
 use Rattle.amoebot_state.specs.Pairs.{Pairs, Triples, plain_triple}
 use Rattle.amoebot_state.specs.Ports.{end_word}
 use Rattle.claim_core.specs.Limits.{most_turns}
-use Rattle.node_text.specs.Parts.{word, is_end, one_more, IsWord}
+use Rattle.shape_text.specs.Parts.{word, is_end, one_more, IsWord}
 use Rattle.journal_text.specs.Journals.{IsPortBehind, IsMoved, IsCellText, IsValueOf, IsOldValue, WrittenChange, written_change, IsPair, Numbers, numbers_of, AreNumbers, WrittenEntry, Written, written_entry, IsEntryWord, IsWrittenEntry, ids_of_name, ids_of_value, ids_of_old, ids_of_change, named_ids, is_known, entry_fault, IsEntryBy, AreEntriesBy, IsJournalOf, full_change, entry_by, IsJournal, plain_by, IsPlainJournal}
-use Rattle.node_text.specs.PartTexts.{node_words, port_words, bot_words}
+use Rattle.shape_text.specs.PartTexts.{node_words, port_words, bot_words}
 use Rattle.journal_text.specs.Texts.{cell_words, value_words, old_words, change_words, moved_words, entry_numbers, entry_words, written_lines, change_in_full, written_full, change_of_pair, written_plain}
-use Rattle.node_text.specs.PartLimits.{HasCoordinates}
+use Rattle.shape_text.specs.PartLimits.{HasCoordinates}
 use Rattle.journal_text.specs.Rereading.{IsWritablePair, IsWritableChange, IsPossible, KeepsLimits, JournalsReadBack, PlainJournalsReadBack}
 use Rattle.text_tokens.proofs.LinesLemmas.{Found, Is, Any, Rereads, RereadsLines, rereads_behind, rereads_then, rereads_next, rereads_made, rereads_as, rereads_first, rereads_second, rereads_judged, rereads_nothing, rereads_into, rereads_more, lines_more, lines_then, lines_next, lines_nothing, the_passes, one_found, one_rereads, reread_line}
 use Rattle.text_tokens.proofs.StepsLemmas.{not_past}
 use Rattle.text_tokens.proofs.SaysLemmas.{lines_say}
 use Rattle.journal_text.proofs.JournalLaws.{BehindWord}
-use Rattle.node_text.proofs.PartsReread.{any_number, the_word, means, an_end, a_port, a_node, a_bot}
+use Rattle.shape_text.proofs.PartsReread.{any_number, the_word, means, an_end, a_port, a_node, a_bot}
 
 -- ---- movements
 

@@ -5,7 +5,7 @@ use Rattle.text_tokens.specs.Reading.{Reader, ◌>>=◌, pure}
 use Rattle.text_tokens.proofs.StepsLemmas.{Reached, stays}
 use Rattle.text_tokens.proofs.Rows.{Left, all_left}
 use Rattle.amoebot_state.specs.declared.cell.Cell.{Cell}
-use Rattle.node_text.specs.PartReaders.{a_word}
+use Rattle.shape_text.specs.PartReaders.{a_word}
 use Rattle.journal_text.specs.Readers.{an_old_value}
 
 -- what stands behind the value before

@@ -14,12 +14,12 @@ use Rattle.text_tokens.proofs.RepeatedLemmas.{part_repeated}
 use Rattle.text_tokens.proofs.LexemeLemmas.{passing, other_text, not_either}
 use Rattle.text_tokens.proofs.JoinedParts.{one_behind, into, one_of_two}
 use Rattle.amoebot_state.specs.declared.verdict.Failure.TheVariants as failure
-use Rattle.node_text.specs.Parts.{word, is_end, IsWord, IsNumber}
+use Rattle.shape_text.specs.Parts.{word, is_end, IsWord, IsNumber}
 use Rattle.journal_text.specs.Journals.{IsCellText}
 use Rattle.journal_text.specs.Turns.{Nothing, Unheeded, is_failure, IsPlacedMark, IsFailed, IsClaimant, IsBusy, IsMark, is_turn, IsTurnLine, as_before, AreTurns, IsTurns}
-use Rattle.node_text.specs.PartReaders.{a_word, a_number}
+use Rattle.shape_text.specs.PartReaders.{a_word, a_number}
 use Rattle.journal_text.specs.Readers.{unheeded, placed_mark, a_cell, a_failed, a_claimant, a_busy, a_mark, a_turn, turn_in, all_turn_lines, the_turns}
-use Rattle.node_text.proofs.PartLaws.{up_to_end, starts_word, part_word, part_number}
+use Rattle.shape_text.proofs.PartLaws.{up_to_end, starts_word, part_word, part_number}
 use Rattle.journal_text.proofs.JournalLaws.{part_cell}
 use Rattle.journal_text.proofs.FailureWords.{failure_named}
 

@@ -14,14 +14,14 @@ use Rattle.amoebot_state.specs.declared.verdict.Failure.{Failure}
 use Rattle.claim_core.specs.Turns.{MarkLists}
 use Rattle.claim_core.specs.declared.marks.Mark.{Mark}
 use Rattle.claim_core.specs.declared.marks.Mark.TheVariants as mark
-use Rattle.node_text.specs.Parts.{IsWord, IsNumber}
+use Rattle.shape_text.specs.Parts.{IsWord, IsNumber}
 use Rattle.journal_text.specs.Journals.{IsCellText}
 use Rattle.journal_text.specs.Texts.{cell_words, failure_word, mark_words, turn_words, caller_lines}
 use Rattle.journal_text.specs.Turns.{Nothing, Unheeded, names_failure, is_failure, IsPlacedMark, IsFailed, IsClaimant, IsBusy, IsMark, IsTurnLine, as_before, AreTurns, IsTurns}
 use Rattle.journal_text.specs.Rereading.{IsWritableCell, IsClaim, IsWritableFailure, IsWritableMark, AreWritable, TurnsReadBack}
 use Rattle.text_tokens.proofs.LinesLemmas.{Is, Any, Rereads, RereadsLines, IsSpelled, rereads_next, rereads_made, rereads_first, rereads_second, one_found, one_rereads, kind_passes, found_made, more_of, lines_into, lines_behind_line, lines_next, lines_then, lines_made, lines_nothing, reread_line}
 use Rattle.text_tokens.proofs.SaysLemmas.{lines_say}
-use Rattle.node_text.proofs.PartsReread.{any_number, the_word}
+use Rattle.shape_text.proofs.PartsReread.{any_number, the_word}
 use Rattle.journal_text.proofs.FailureWords.{failure_token, failure_kind, failure_named}
 use Rattle.journal_text.proofs.JournalsReread.{a_spot, a_body, the_last_word}
 

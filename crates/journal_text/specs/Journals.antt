@@ -33,7 +33,7 @@ use Rattle.amoebot_state.specs.Pairs.{CellChange}
 use Rattle.amoebot_state.specs.Steps.{entry_of, plain_entry}
 use Rattle.claim_core.specs.Limits.{most_turns}
 use Rattle.journal_text.specs.Limits.{last_caller, last_turn}
-use Rattle.node_text.specs.Parts.{word, is_end, past_most, one_more, IsWord, Means, IsNumber, IsNode, IsEnd, IsPortText, IsBotText}
+use Rattle.shape_text.specs.Parts.{word, is_end, past_most, one_more, IsWord, Means, IsNumber, IsNode, IsEnd, IsPortText, IsBotText}
 
 -- ---- movements
 

@@ -15,7 +15,7 @@ use Rattle.amoebot_state.specs.declared.verdict.Moved.{Moved}
 use Rattle.amoebot_state.specs.declared.verdict.Moved.TheVariants as moved
 use Rattle.amoebot_state.specs.Pairs.{CellChange, Triples}
 use Rattle.amoebot_state.specs.Ports.{port}
-use Rattle.node_text.specs.Parts.{a_node_of, a_bot_of}
+use Rattle.shape_text.specs.Parts.{a_node_of, a_bot_of}
 use Rattle.journal_text.specs.Journals.{AreEntriesBy, entry_by, IsJournal}
 
 -- a journal without variables, with these entries

@@ -12,10 +12,10 @@ use Rattle.amoebot_state.specs.declared.verdict.PlainEntry.{PlainEntry}
 use Rattle.amoebot_state.specs.declared.verdict.Moved.{Moved}
 use Rattle.amoebot_state.specs.declared.verdict.Moved.TheVariants as moved
 use Rattle.amoebot_state.specs.Limits.{most_pairs}
-use Rattle.node_text.specs.Parts.{word, is_end, one_more}
+use Rattle.shape_text.specs.Parts.{word, is_end, one_more}
 use Rattle.journal_text.specs.Journals.{is_spot_word, is_cell, WrittenChange, written_change, is_entry, Numbers, numbers_of, WrittenEntry, Written, written_entry, past_entries, entry_fault, entry_by, plain_by}
 use Rattle.journal_text.specs.Turns.{Nothing, is_failure, is_turn, as_before}
-use Rattle.node_text.specs.PartReaders.{a_word, means, a_number, a_node, an_end, a_port_text, a_bot}
+use Rattle.shape_text.specs.PartReaders.{a_word, means, a_number, a_node, an_end, a_port_text, a_bot}
 
 -- ---- movements
 

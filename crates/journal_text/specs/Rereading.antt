@@ -22,8 +22,8 @@ use Rattle.journal_text.specs.Turns.{IsTurns}
 use Rattle.journal_text.specs.Journals.{WrittenChange, WrittenEntry, is_known, IsJournal, IsPlainJournal}
 use Rattle.text_tokens.specs.Inputs.{Says}
 use Rattle.journal_text.specs.Texts.{text_by, written_full, written_plain, turns_text}
-use Rattle.node_text.specs.Parts.{may_have_walls}
-use Rattle.node_text.specs.PartLimits.{HasCoordinates, HasLimits}
+use Rattle.shape_text.specs.Parts.{may_have_walls}
+use Rattle.shape_text.specs.PartLimits.{HasCoordinates, HasLimits}
 
 -- a node with its occupant, or a body with an amoebot
 abbrev pub IsWritablePair : ℕ → CellName × Cell → Type 0

@@ -8,7 +8,7 @@ use Rattle.amoebot_state.specs.declared.verdict.Failure.TheVariants as failure
 use Rattle.amoebot_state.specs.declared.verdict.Moved.TheVariants as moved
 use Rattle.amoebot_state.specs.Ports.{port}
 use Rattle.claim_core.specs.declared.marks.Mark.TheVariants as mark
-use Rattle.node_text.specs.Parts.{a_node_of}
+use Rattle.shape_text.specs.Parts.{a_node_of}
 use Rattle.journal_text.specs.JournalRows.{act, spot, body_pair, long}
 use Rattle.journal_text.specs.OldValueRows.{change_act, spot_change, body_change_of, expansion_made}
 use Rattle.journal_text.specs.Texts.{journal_text, plain_text, turns_text}

@@ -20,8 +20,8 @@ use Rattle.amoebot_state.specs.Steps.{plain_entry}
 use Rattle.claim_core.specs.declared.marks.Mark.{Mark}
 use Rattle.claim_core.specs.declared.marks.Mark.TheVariants as mark
 use Rattle.claim_core.specs.Turns.{MarkLists}
-use Rattle.node_text.specs.Parts.{has_old_values}
-use Rattle.node_text.specs.PartTexts.{node_words, port_words, bot_words}
+use Rattle.shape_text.specs.Parts.{has_old_values}
+use Rattle.shape_text.specs.PartTexts.{node_words, port_words, bot_words}
 use Rattle.journal_text.specs.Journals.{WrittenChange, WrittenEntry, entry_with}
 
 abbrev pub cell_words : CellName → Words

@@ -15,7 +15,7 @@ use Rattle.text_tokens.specs.Text.{Lexeme}
 use Rattle.text_tokens.specs.Cursor.{is_kind}
 use Rattle.text_tokens.specs.Grammar.{Lang, Then, Made, IsThe, Closed, Either, Repeated}
 use Rattle.amoebot_state.specs.declared.verdict.Failure.TheVariants as failure
-use Rattle.node_text.specs.Parts.{word, is_end, may_have_walls, IsWord, IsNumber}
+use Rattle.shape_text.specs.Parts.{word, is_end, may_have_walls, IsWord, IsNumber}
 use Rattle.journal_text.specs.Journals.{IsCellText}
 use Rattle.journal_text.specs.Texts.{failure_word}
 

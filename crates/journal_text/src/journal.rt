@@ -17,7 +17,7 @@ ghost use Rattle.journal_text.specs.Views as view;
 use crate::forms::Form;
 use amoebot_state::{Bot, Cell, CellName, End, Entry, MOST_PAIRS, Moved, PlainEntry, Port};
 use arrayvec::ArrayVec;
-use node_text::{Reading, read_bot, read_end, read_node, read_port, read_word, read_word_within};
+use shape_text::{Reading, read_bot, read_end, read_node, read_port, read_word, read_word_within};
 use std::alloc::Global;
 use std::marker::Model;
 use text_tokens::{RefusalKind, TokenKind, Tokens, number, refused};

@@ -12,7 +12,7 @@ ghost use Rattle.claim_core.specs.Turns.{marks_of};
 
 use amoebot_state::{Cell, CellName, Entry, Failure, Moved, NoMemory};
 use claim_core::{Mark, Marks};
-use node_text::{put_bot, put_node, put_port};
+use shape_text::{put_bot, put_node, put_port};
 use std::alloc::{AllocError, Global};
 use text_tokens::{Lines, Text};
 

@@ -8,7 +8,7 @@ ghost use Rattle.journal_text.specs.Turns as spec;
 ghost use Rattle.journal_text.specs.Readers as reader;
 
 use crate::journal::read_cell;
-use node_text::{Reading, may_have_walls, read_word};
+use shape_text::{Reading, may_have_walls, read_word};
 use text_tokens::{RefusalKind, TokenKind, Tokens, number, refused};
 
 /// The words of failures. The last one is for texts that may have walls.

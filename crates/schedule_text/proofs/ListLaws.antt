@@ -14,8 +14,8 @@ use Rattle.text_tokens.proofs.RepeatedLemmas.{part_repeated}
 use Rattle.text_tokens.proofs.LexemeLemmas.{other_kind, other_text, a_numeral, starts_numeral}
 use Rattle.text_tokens.proofs.JoinedParts.{one_behind, into, starts_behind}
 use Rattle.claim_core.specs.Limits.{most_turns}
-use Rattle.node_text.specs.Parts.{word, is_end, one_more}
-use Rattle.node_text.proofs.PartLaws.{up_to_end, starts_word, part_word, part_word_within, starts_word_within}
+use Rattle.shape_text.specs.Parts.{word, is_end, one_more}
+use Rattle.shape_text.proofs.PartLaws.{up_to_end, starts_word, part_word, part_word_within, starts_word_within}
 use Rattle.schedule_text.specs.Lists.{past_ids, IsId, IdsFrom, AreIds, is_list, past_lists, IsListWord, IsCallerList, ListsFrom, lists_of, IsTurnCount, IsLists}
 use Rattle.schedule_text.specs.Readers.{an_id, ids_from, all_ids, list_word, a_list, lists_from, all_lists, some_turns, the_lists}
 

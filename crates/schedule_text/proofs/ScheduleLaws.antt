@@ -13,8 +13,8 @@ use Rattle.text_tokens.proofs.ChoiceLemmas.{part_optional}
 use Rattle.text_tokens.proofs.RepeatedLemmas.{part_repeated}
 use Rattle.text_tokens.proofs.LexemeLemmas.{other_text, a_numeral, starts_numeral}
 use Rattle.text_tokens.proofs.JoinedParts.{one_behind, into, starts_behind}
-use Rattle.node_text.specs.Parts.{word, is_end}
-use Rattle.node_text.proofs.PartLaws.{up_to_end, starts_word, part_word, number_no_word}
+use Rattle.shape_text.specs.Parts.{word, is_end}
+use Rattle.shape_text.proofs.PartLaws.{up_to_end, starts_word, part_word, number_no_word}
 use Rattle.schedule_text.specs.Schedules.{past_callers, past_times, is_times, stretch_of, IsTimes, IsStretch, more_steps, StretchesFrom, steps_of, IsSchedule}
 use Rattle.schedule_text.specs.Readers.{a_caller, number_of_times, its_times, any_times, a_stretch, stretches_from, all_steps, a_schedule}
 use Rattle.schedule_text.proofs.ListLaws.{word_no_number}

@@ -12,7 +12,7 @@ use Rattle.text_tokens.specs.Reading.{too_large}
 use Rattle.text_tokens.specs.Grammar.{Lang, IsOne, Then, Made, IsNumeral, Closed, Repeated}
 use Rattle.claim_core.specs.Limits.{most_callers, most_turns, most_ids}
 use Rattle.claim_core.specs.Turns.{CallerLists}
-use Rattle.node_text.specs.Parts.{word, is_end, one_more, IsWord}
+use Rattle.shape_text.specs.Parts.{word, is_end, one_more, IsWord}
 use Rattle.schedule_text.specs.Known.{past_known}
 
 -- ---- ids

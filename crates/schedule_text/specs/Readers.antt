@@ -4,8 +4,8 @@ use Rattle.text_tokens.specs.declared.refusal.RefusalKind.TheVariants.{TooMany}
 use Rattle.text_tokens.specs.Reading.{Reader, ◌>>=◌, pure, is_number, one_within, numeral, too_large, closed, optional, repeated}
 use Rattle.claim_core.specs.Limits.{most_turns}
 use Rattle.claim_core.specs.Turns.{CallerLists}
-use Rattle.node_text.specs.Parts.{is_end, one_more}
-use Rattle.node_text.specs.PartReaders.{a_word}
+use Rattle.shape_text.specs.Parts.{is_end, one_more}
+use Rattle.shape_text.specs.PartReaders.{a_word}
 use Rattle.schedule_text.specs.Known.{past_known}
 use Rattle.schedule_text.specs.Lists.{past_ids, is_list, past_lists, lists_of}
 use Rattle.schedule_text.specs.Schedules.{past_callers, past_times, is_times, Stretch, stretch_of, more_steps, steps_of}

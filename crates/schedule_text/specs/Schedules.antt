@@ -12,7 +12,7 @@ use Rattle.text_tokens.specs.declared.refusal.RefusalKind.TheVariants.{BadRange}
 use Rattle.text_tokens.specs.Text.{Lexeme}
 use Rattle.text_tokens.specs.Reading.{lexeme_value, past_sum}
 use Rattle.text_tokens.specs.Grammar.{Lang, Then, Made, IsNumeral, Closed, IsOptional, Repeated}
-use Rattle.node_text.specs.Parts.{word, is_end, IsWord}
+use Rattle.shape_text.specs.Parts.{word, is_end, IsWord}
 use Rattle.schedule_text.specs.Known.{past_known}
 
 abbrev pub most_steps : ℕ

@@ -4,7 +4,7 @@ ghost use Rattle.std.specs.Prelude.{◌<◌, IfOk};
 ghost use Rattle.text_tokens.specs.Steps.{Gives};
 ghost use Rattle.schedule_text.specs.Readers as reader;
 
-use node_text::Reading;
+use shape_text::Reading;
 use text_tokens::{RefusalKind, TokenKind, Tokens, refused};
 
 /// A number below `known`, where fewer than `most` stand before it.

@@ -9,7 +9,7 @@ ghost use Rattle.schedule_text.specs.Readers as reader;
 
 use crate::known::read_known;
 use claim_core::Lists;
-use node_text::{Reading, read_word};
+use shape_text::{Reading, read_word};
 use std::alloc::Global;
 use text_tokens::{ReadRefusal, RefusalKind, TokenKind, Tokens, number_up_to, refused};
 

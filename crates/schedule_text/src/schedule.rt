@@ -8,7 +8,7 @@ ghost use Rattle.schedule_text.specs.Readers as reader;
 ghost use Rattle.schedule_text.specs.Views as view;
 
 use crate::known::read_known;
-use node_text::{Reading, read_word};
+use shape_text::{Reading, read_word};
 use std::alloc::Global;
 use std::marker::Model;
 use text_tokens::{RefusalKind, TokenKind, Tokens, refused};

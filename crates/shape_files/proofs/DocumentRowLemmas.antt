@@ -15,7 +15,7 @@ use Rattle.action_tree.specs.StatementReaders.{an_if, a_for, a_stmt, all_stmts, 
 use Rattle.action_tree.specs.ProgramReaders.{a_move, an_action, a_var, a_guarded, a_program}
 use Rattle.journal_text.specs.Turns as turns
 use Rattle.journal_text.specs.Readers as journal
-use Rattle.node_text.specs.PartReaders as part
+use Rattle.shape_text.specs.PartReaders as part
 use Rattle.shape_text.specs.Readers as shape
 use Rattle.schedule_text.specs.Readers as schedule
 use Rattle.shape_files.specs.FrameReaders.{rest_at, header_from, in_frame_from}

@@ -28,8 +28,8 @@ use Rattle.action_check.specs.Faults.{faults}
 use Rattle.journal_text.specs.Journals.{ids_of_change, named_ids, is_known, WrittenEntry, IsEntryBy, IsJournalOf, entry_by, plain_by}
 use Rattle.journal_text.specs.Texts.{written_full, written_plain}
 use Rattle.journal_text.proofs.KeptLimits.{known_full, known_plain}
-use Rattle.node_text.specs.Parts.{may_have_walls, has_old_values}
-use Rattle.node_text.proofs.Outside.{within}
+use Rattle.shape_text.specs.Parts.{may_have_walls, has_old_values}
+use Rattle.shape_text.proofs.Outside.{within}
 use Rattle.shape_text.specs.Shapes.{WrittenWall, written_node, AreWallLines, written_shape, stands_for, IsShapeUnder}
 use Rattle.amoebot_state.specs.Walls.{node_numbers}
 use Rattle.schedule_text.specs.Lists.{IsId, IsCallerList, IsLists}

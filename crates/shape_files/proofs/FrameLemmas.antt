@@ -18,7 +18,7 @@ use Rattle.text_tokens.proofs.Parts.{nil_not, part_nothing, part_behind}
 use Rattle.text_tokens.proofs.ChoiceLemmas.{law_choose, law_branch, law_refuse, law_stop}
 use Rattle.text_tokens.proofs.LexemeLemmas.{passing, a_token, a_numeral}
 use Rattle.text_tokens.proofs.CombinatorLemmas.{exact_law, input_law}
-use Rattle.node_text.specs.Parts.{outside}
+use Rattle.shape_text.specs.Parts.{outside}
 use Rattle.shape_files.specs.declared.section_kind.Section.{Section}
 use Rattle.shape_files.specs.declared.section_kind.Section.TheVariants.{Program, Shape, Lists, Schedule, Journal, Final, Turns}
 use Rattle.shape_files.specs.Frame.{word_of_section, is_word_of_section, is_header_word, is_section_word, Course, ends, needs, may, NextSection, next_section, comes, may_end, IsRest, section, finished, wrong, greatest_version, IsHeaderFrom, IsInFrameFrom}

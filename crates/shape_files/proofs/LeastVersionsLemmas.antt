@@ -15,8 +15,8 @@ use Rattle.text_tokens.proofs.Blanks.{point}
 use Rattle.text_tokens.proofs.Exactness.{none_stops}
 use Rattle.text_tokens.proofs.ListSplits.{fine-parts}
 use Rattle.text_tokens.proofs.PromisesLemmas.{tokens_of_text}
-use Rattle.node_text.specs.Parts.{outside, has_old_values}
-use Rattle.node_text.proofs.Outside as range
+use Rattle.shape_text.specs.Parts.{outside, has_old_values}
+use Rattle.shape_text.proofs.Outside as range
 use Rattle.shape_files.specs.declared.section_kind.Section.{Section}
 use Rattle.shape_files.specs.declared.section_kind.Section.TheVariants as kind
 use Rattle.shape_files.specs.declared.section_kind.Form.{Form}

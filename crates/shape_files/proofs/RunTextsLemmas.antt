@@ -25,7 +25,7 @@ use Rattle.amoebot_state.specs.Configs.{Config}
 use Rattle.amoebot_state.specs.Steps.{plain_entry}
 use Rattle.claim_core.specs.Limits.{most_turns}
 use Rattle.claim_core.specs.Turns.{MarkLists}
-use Rattle.node_text.specs.Parts.{has_old_values}
+use Rattle.shape_text.specs.Parts.{has_old_values}
 use Rattle.journal_text.specs.Journals.{WrittenEntry}
 use Rattle.journal_text.specs.Texts.{written_full, written_plain, written_by, written_lines, written_text, journal_text, plain_text, caller_lines, turns_text}
 use Rattle.journal_text.specs.Rereading.{KeepsLimits}

@@ -25,7 +25,7 @@ use Rattle.action_tree.specs.ProgramReaders.{a_program}
 use Rattle.action_tree.proofs.ProgramLaws.{part_program}
 use Rattle.action_tree.proofs.NameLemmas.{lacking}
 use Rattle.action_check.specs.Faults.{faults}
-use Rattle.node_text.specs.Parts.{IsWord, has_old_values}
+use Rattle.shape_text.specs.Parts.{IsWord, has_old_values}
 use Rattle.journal_text.specs.Journals.{entry_by, plain_by}
 use Rattle.journal_text.proofs.JournalLaws.{part_journal_of}
 use Rattle.journal_text.proofs.TurnLaws.{part_the_turns}

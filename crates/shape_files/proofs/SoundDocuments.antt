@@ -25,9 +25,9 @@ use Rattle.claim_core.specs.Limits.{most_callers, most_ids, most_turns}
 use Rattle.claim_core.specs.Turns.{CallerLists, AreFew, AreLists, IsList}
 use Rattle.action_tree.specs.Trees as tree
 use Rattle.action_check.specs.Maxes.{first_or_zero}
-use Rattle.node_text.specs.Limits.{most_coordinate}
-use Rattle.node_text.specs.Parts.{IsBotText, IsInt, IsNode, IsUpTo, memory, has_old_values}
-use Rattle.node_text.proofs.Outside.{within}
+use Rattle.shape_text.specs.Limits.{most_coordinate}
+use Rattle.shape_text.specs.Parts.{IsBotText, IsInt, IsNode, IsUpTo, memory, has_old_values}
+use Rattle.shape_text.proofs.Outside.{within}
 use Rattle.shape_text.specs.Shapes.{WrittenBot, WrittenShape, written_shape, written_node, written_amoebot, shape_frame, written_node, stands_for, IsSide, IsAreaLine, IsBotLine, IsShapeUnder}
 use Rattle.shape_text.proofs.JudgementsLemmas.{unrefused}
 use Rattle.schedule_text.specs.Lists.{IdsFrom, IsCallerList, IsId, IsLists}

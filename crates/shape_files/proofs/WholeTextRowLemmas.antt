@@ -14,8 +14,8 @@ use Rattle.amoebot_state.proofs.Faults.{frame_valid, valid_one}
 use Rattle.amoebot_state.proofs.StepExamples.{plain}
 use Rattle.claim_core.specs.declared.marks.Mark.{Mark}
 use Rattle.claim_core.specs.declared.marks.Mark.TheVariants as mark
-use Rattle.node_text.specs.Parts.{a_node_of}
-use Rattle.node_text.specs.PartLimits.{HasCoordinates, HasLimits}
+use Rattle.shape_text.specs.Parts.{a_node_of}
+use Rattle.shape_text.specs.PartLimits.{HasCoordinates, HasLimits}
 use Rattle.journal_text.specs.Texts.{written_full, written_plain}
 use Rattle.journal_text.specs.Rereading.{KeepsLimits, IsWritableMark, AreWritable, IsWritableChange}
 use Rattle.shape_text.specs.Rereading.{IsWritableConfig}

@@ -37,8 +37,8 @@ use Rattle.journal_text.specs.Journals.{IsJournal, IsPlainJournal}
 use Rattle.journal_text.specs.Texts.{written_full, written_plain, written_lines, journal_text, plain_text, caller_lines, turns_text}
 use Rattle.journal_text.specs.Turns.{IsTurns}
 use Rattle.journal_text.specs.Rereading.{KeepsLimits, AreWritable}
-use Rattle.node_text.specs.Parts.{outside, IsWord, has_old_values}
-use Rattle.node_text.proofs.Outside.{inside}
+use Rattle.shape_text.specs.Parts.{outside, IsWord, has_old_values}
+use Rattle.shape_text.proofs.Outside.{inside}
 use Rattle.shape_text.specs.Rereading.{IsWritableConfig}
 use Rattle.journal_text.proofs.JournalsReread.{journal_lines, plain_journal_lines}
 use Rattle.journal_text.proofs.TurnsReread.{turns_lines}

@@ -14,7 +14,7 @@ use Rattle.action_tree.proofs.Fine.{IsFine, fine_parts, fine_text, cut_front}
 use Rattle.action_tree.proofs.MeasuredStatements.{program_passes}
 use Rattle.action_tree.proofs.ProductionsLemmas.{program_given}
 use Rattle.action_check.specs.Faults.{faults}
-use Rattle.node_text.specs.Parts.{has_old_values}
+use Rattle.shape_text.specs.Parts.{has_old_values}
 use Rattle.shape_files.specs.declared.section_kind.Section.{Section}
 use Rattle.shape_files.specs.declared.section_kind.Section.TheVariants as kind
 use Rattle.shape_files.specs.declared.section_kind.Form.{Form}

@@ -4,7 +4,7 @@ use Rattle.text_tokens.specs.Reading.{Reader, ◌>>=◌, pure, judged}
 use Rattle.action_tree.specs.Trees as tree
 use Rattle.action_tree.specs.ProgramReaders.{a_program}
 use Rattle.action_check.specs.Faults.{faults}
-use Rattle.node_text.specs.Parts.{has_old_values}
+use Rattle.shape_text.specs.Parts.{has_old_values}
 use Rattle.journal_text.specs.Readers.{journal, plain_journal, the_turns}
 use Rattle.shape_text.specs.Readers.{a_shape, a_final}
 use Rattle.schedule_text.specs.Readers.{the_lists, a_schedule}

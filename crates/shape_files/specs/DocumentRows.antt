@@ -22,7 +22,7 @@ use Rattle.amoebot_state.specs.Examples.{eight_by_eight, zeros}
 use Rattle.action_tree.specs.Trees as tree
 use Rattle.action_tree.specs.Trees.{Name, Literal, atom, through, expand, at_end, fixed, no_stmts}
 use Rattle.action_tree.specs.Programs.{parsed_program}
-use Rattle.node_text.specs.Parts.{a_node_of}
+use Rattle.shape_text.specs.Parts.{a_node_of}
 use Rattle.shape_text.specs.ShapeRows.{shape_bot}
 use Rattle.schedule_text.specs.Lists.{lists_of}
 use Rattle.shape_files.specs.declared.section_kind.Form.{Form}

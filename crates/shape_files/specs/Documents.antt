@@ -14,7 +14,7 @@ use Rattle.action_tree.specs.Trees as tree
 use Rattle.action_tree.specs.Programs.{IsProgram}
 use Rattle.action_check.specs.Faults.{faults}
 use Rattle.action_check.specs.Maxes.{maxes_of}
-use Rattle.node_text.specs.Parts.{has_old_values}
+use Rattle.shape_text.specs.Parts.{has_old_values}
 use Rattle.journal_text.specs.Journals.{IsJournal, IsPlainJournal}
 use Rattle.journal_text.specs.Turns.{IsTurns}
 use Rattle.shape_text.specs.Shapes.{IsShape, IsFinal}

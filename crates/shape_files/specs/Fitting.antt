@@ -11,7 +11,7 @@ use Rattle.action_tree.specs.Trees as tree
 use Rattle.action_tree.specs.Limits.{most_actions}
 use Rattle.action_tree.specs.Writable.{is_writable}
 use Rattle.action_check.specs.Faults.{faults}
-use Rattle.node_text.specs.Parts.{may_have_walls, has_old_values}
+use Rattle.shape_text.specs.Parts.{may_have_walls, has_old_values}
 use Rattle.journal_text.specs.Journals.{WrittenEntry, is_known}
 use Rattle.journal_text.specs.Texts.{written_full, written_plain}
 use Rattle.shape_files.specs.declared.section_kind.Form.{Form}

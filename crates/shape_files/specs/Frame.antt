@@ -12,7 +12,7 @@ use Rattle.text_tokens.specs.Text.{Lexeme}
 use Rattle.text_tokens.specs.Cursor.{is_the}
 use Rattle.text_tokens.specs.Reading.{first}
 use Rattle.text_tokens.specs.Grammar.{Symbol, symbol, tokens, Lang, Then, IsThe, IsNumeral}
-use Rattle.node_text.specs.Parts.{outside}
+use Rattle.shape_text.specs.Parts.{outside}
 use Rattle.shape_files.specs.declared.section_kind.Section.{Section}
 use Rattle.shape_files.specs.declared.section_kind.Section.TheVariants.{Program, Shape, Lists, Schedule, Journal, Final, Turns}
 use Rattle.shape_files.specs.declared.section_kind.Form.{Form}

@@ -3,7 +3,7 @@ use Rattle.std.specs.Prelude.{ℕ, if◌then◌else◌, Option}
 use Rattle.text_tokens.specs.declared.refusal.RefusalKind.TheVariants.{WrongSection}
 use Rattle.text_tokens.specs.Text.{Lexeme}
 use Rattle.text_tokens.specs.Reading.{Reader, starts_at, ◌>>=◌, pure, refuse, stop, choose, the_line, numeral}
-use Rattle.node_text.specs.Parts.{outside}
+use Rattle.shape_text.specs.Parts.{outside}
 use Rattle.shape_files.specs.declared.section_kind.Section.{Section}
 use Rattle.shape_files.specs.Frame.{Course, ends, needs, may, is_word_of_section, is_header_word, is_section_word, least_version, greatest_version}
 

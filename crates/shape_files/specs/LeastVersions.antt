@@ -6,7 +6,7 @@ use Rattle.text_tokens.specs.declared.refusal.RefusalKind.TheVariants.{BadRange}
 use Rattle.text_tokens.specs.Text.{Lexeme, AreTokens}
 use Rattle.text_tokens.specs.Cursor.{on_line}
 use Rattle.text_tokens.specs.Reading.{is_number, lexeme_value}
-use Rattle.node_text.specs.Parts.{has_old_values}
+use Rattle.shape_text.specs.Parts.{has_old_values}
 use Rattle.shape_files.specs.declared.section_kind.Form.{Form}
 use Rattle.shape_files.specs.declared.section_kind.Form.TheVariants.{Replay}
 use Rattle.shape_files.specs.Frame.{least_version, is_header_word}

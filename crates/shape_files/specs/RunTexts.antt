@@ -7,7 +7,7 @@ use Rattle.amoebot_state.specs.Configs.{Config}
 use Rattle.amoebot_state.specs.Steps.{plain_entry}
 use Rattle.claim_core.specs.Limits.{most_callers, most_turns}
 use Rattle.claim_core.specs.Turns.{MarkLists}
-use Rattle.node_text.specs.Parts.{has_old_values}
+use Rattle.shape_text.specs.Parts.{has_old_values}
 use Rattle.journal_text.specs.Texts.{written_by, journal_of_version, turns_text}
 use Rattle.journal_text.specs.Rereading.{KeepsLimits, AreWritable}
 use Rattle.shape_text.specs.Texts.{shape_text}

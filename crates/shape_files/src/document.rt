@@ -10,7 +10,7 @@ use crate::Form;
 use crate::forms::read_form;
 use crate::head::{LEAST_VERSION, read_version};
 use crate::parts::{Parts, Sections};
-use node_text::Reading;
+use shape_text::Reading;
 use std::alloc::Global;
 use text_tokens::{RefusalKind, Tokens};
 

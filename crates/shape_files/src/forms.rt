@@ -9,7 +9,7 @@ use crate::head::{is_next, missing};
 use crate::parts::Parts;
 use crate::section::read_section;
 use crate::{Form, Section};
-use node_text::Reading;
+use shape_text::Reading;
 use std::alloc::Global;
 use text_tokens::Tokens;
 

@@ -1,7 +1,7 @@
 //! Each section, in the state that those before it gave.
 
 ghost use Rattle.text_tokens.specs.Steps.{Gives};
-ghost use Rattle.node_text.specs.Parts as part;
+ghost use Rattle.shape_text.specs.Parts as part;
 ghost use Rattle.shape_files.specs.DocumentReaders.{a_checked_program, body, journal_body};
 ghost use Rattle.shape_files.specs.Views.{contents};
 
@@ -10,9 +10,8 @@ use crate::parts::Parts;
 use action_check::{Checked, check};
 use action_parser::parse_program;
 use journal_text::{Counts, read_journal, read_plain, read_turns};
-use node_text::{Reading, has_old_values};
 use schedule_text::{read_lists, read_schedule};
-use shape_text::{read_final, read_shape};
+use shape_text::{Reading, has_old_values, read_final, read_shape};
 use std::alloc::Global;
 use text_tokens::Tokens;
 

@@ -1,5 +1,9 @@
 pub mod JudgementsLemmas
+pub mod Meanings
 pub mod NextLines
+pub mod Outside
+pub mod PartLaws
+pub mod PartsReread
 pub mod ShapeLaws
 pub mod ShapesReread
 pub mod WallNumbers

@@ -14,9 +14,9 @@ use Rattle.text_tokens.proofs.StartsLemmas.{starts_in, starts_in_more, starts_in
 use Rattle.text_tokens.proofs.RepeatedLemmas.{part_repeated}
 use Rattle.text_tokens.proofs.LexemeLemmas.{other_text, a_numeral}
 use Rattle.text_tokens.proofs.JoinedParts.{one_behind, into, starts_behind, starts_into}
-use Rattle.node_text.specs.Parts.{word, is_end, outside, one_more, may_have_walls, IsWord, IsNode, IsBotText}
-use Rattle.node_text.specs.PartReaders.{a_word, a_node, a_bot}
-use Rattle.node_text.proofs.PartLaws.{up_to_end, starts_word, part_word, part_word_within, starts_word_within, part_int, part_node, part_bot}
+use Rattle.shape_text.specs.Parts.{word, is_end, outside, one_more, may_have_walls, IsWord, IsNode, IsBotText}
+use Rattle.shape_text.specs.PartReaders.{a_word, a_node, a_bot}
+use Rattle.shape_text.proofs.PartLaws.{up_to_end, starts_word, part_word, part_word_within, starts_word_within, part_int, part_node, part_bot}
 use Rattle.shape_text.specs.Shapes.{IsSide, an_area_of, IsAreaLine, is_wall_word, WrittenWall, written_wall, past_walls, IsWallWord, IsWallLine, AreWallLines, is_bot, WrittenBot, written_bot, past_bots, IsBotWord, IsBotLine, AreBots, WrittenShape, written_shape, IsWrittenShape, shape_fault, stands_for, IsShapeUnder, IsShape, IsFinal}
 use Rattle.shape_text.specs.Readers.{a_side, an_area, wall_word, a_wall_line, walls_from, bot_word, a_bot_line, bots_from, a_drawing, a_written_shape, shape_under, a_shape, a_final}
 

@@ -23,14 +23,14 @@ use Rattle.amoebot_state.specs.Refusals.{AreWalls}
 use Rattle.amoebot_state.proofs.Faults.{valid_is_faultless}
 use Rattle.amoebot_state.proofs.RisingLists.{Rising}
 use Rattle.amoebot_state.proofs.Walls.{rising_numbers}
-use Rattle.node_text.specs.Parts.{is_end, outside, one_more, may_have_walls, IsWord}
+use Rattle.shape_text.specs.Parts.{is_end, outside, one_more, may_have_walls, IsWord}
 use Rattle.text_tokens.specs.Inputs.{Says}
-use Rattle.node_text.specs.PartLimits.{size, HasCoordinates, HasLimits}
+use Rattle.shape_text.specs.PartLimits.{size, HasCoordinates, HasLimits}
 use Rattle.text_tokens.proofs.LinesLemmas.{Is, Any, Rereads, RereadsLines, rereads_then, rereads_next, rereads_made, rereads_as, rereads_number, rereads_behind, one_rereads, one_found, the_passes, found_judged, found_made, rereads_the, reread_line, lines_by, lines_into, lines_made, lines_then, lines_next, lines_behind_line, lines_nothing, more_of}
 use Rattle.text_tokens.proofs.StepsLemmas.{not_past}
 use Rattle.text_tokens.proofs.SaysLemmas.{lines_say}
-use Rattle.node_text.proofs.Outside.{inside}
-use Rattle.node_text.proofs.PartsReread.{the_word, an_int, a_node, a_bot}
+use Rattle.shape_text.proofs.Outside.{inside}
+use Rattle.shape_text.proofs.PartsReread.{the_word, an_int, a_node, a_bot}
 use Rattle.shape_text.specs.Shapes.{IsSide, an_area_of, IsAreaLine, WrittenWall, written_wall, written_node, IsWallWord, IsWallLine, AreWallLines, WrittenBot, written_bot, written_amoebot, IsBotWord, IsBotLine, AreBots, WrittenShape, written_shape, shape_frame, IsWrittenShape, shape_fault, stands_for, IsShapeUnder}
 use Rattle.shape_text.specs.Texts.{area_words, wall_words, wall_lines, bot_line, present, shape_text}
 use Rattle.shape_text.specs.Rereading.{IsWritableConfig, ShapesReadBack}

@@ -11,8 +11,8 @@ use Rattle.tri_lattice.specs.Extent.{Extent, IsArea, is_in}
 use Rattle.tri_lattice.proofs.Boxes.{in_places}
 use Rattle.amoebot_state.specs.Configs.{has_values, variables}
 use Rattle.amoebot_state.specs.Limits.{most_value}
-use Rattle.node_text.specs.Limits.{most_coordinate}
-use Rattle.node_text.specs.PartLimits.{size, HasCoordinates}
+use Rattle.shape_text.specs.Limits.{most_coordinate}
+use Rattle.shape_text.specs.PartLimits.{size, HasCoordinates}
 
 -- ---- nodes
 

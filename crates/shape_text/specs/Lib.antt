@@ -1,4 +1,9 @@
 pub mod Judgements
+pub mod Limits
+pub mod PartLimits
+pub mod PartReaders
+pub mod PartTexts
+pub mod Parts
 pub mod Readers
 pub mod Rereading
 pub mod ShapeRows
@@ -7,6 +12,9 @@ pub mod TextRows
 pub mod Texts
 pub mod Views
 pub mod WallRows
-pub use Rattle.amoebot_state.specs.Limits
+pub use Rattle.amoebot_state.specs.Limits as AmoebotStateLimits
+pub use Rattle.amoebot_state.specs.Refusals
 pub use Rattle.text_tokens.specs.Lawful
+pub use Rattle.text_tokens.specs.Lines
 pub use Rattle.text_tokens.specs.Steps
+pub use Rattle.tri_lattice.specs.Lattice

@@ -3,8 +3,8 @@ use Rattle.std.specs.Prelude.{ℕ, Bool, true, false, List, [], codes}
 use Rattle.tri_lattice.specs.Extent.{Extent, most_start, most_side}
 use Rattle.text_tokens.specs.Reading.{Reader, ◌>>=◌, pure, one_within, numeral, closed, judged, repeated}
 use Rattle.amoebot_state.specs.Configs.{Config}
-use Rattle.node_text.specs.Parts.{is_end, outside, one_more, may_have_walls}
-use Rattle.node_text.specs.PartReaders.{a_word, an_int, a_node, a_bot}
+use Rattle.shape_text.specs.Parts.{is_end, outside, one_more, may_have_walls}
+use Rattle.shape_text.specs.PartReaders.{a_word, an_int, a_node, a_bot}
 use Rattle.shape_text.specs.Shapes.{an_area_of, is_wall_word, WrittenWall, written_wall, past_walls, is_bot, WrittenBot, written_bot, past_bots, WrittenShape, written_shape, shape_fault, stands_for}
 
 unfoldable pub a_side : Reader ℕ

@@ -6,7 +6,7 @@ use Rattle.amoebot_state.specs.declared.bot.Bot.{Bot}
 use Rattle.amoebot_state.specs.Configs.{Config, IsValid, bot_at}
 use Rattle.amoebot_state.specs.Limits.{most_bots, most_vars, most_value}
 use Rattle.text_tokens.specs.Inputs.{Says}
-use Rattle.node_text.specs.Parts.{may_have_walls}
+use Rattle.shape_text.specs.Parts.{may_have_walls}
 use Rattle.shape_text.specs.Shapes.{IsShape, IsFinal}
 use Rattle.shape_text.specs.Texts.{shape_text}
 

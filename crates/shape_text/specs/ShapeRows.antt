@@ -10,7 +10,7 @@ use Rattle.amoebot_state.specs.declared.bot.Chir.{Chir}
 use Rattle.amoebot_state.specs.declared.bot.Chir.TheVariants.{Plus, Minus}
 use Rattle.amoebot_state.specs.Configs.{frame_of, with_these}
 use Rattle.amoebot_state.specs.Examples.{eight_by_eight, zeros}
-use Rattle.node_text.specs.Parts.{a_node_of, a_bot_of}
+use Rattle.shape_text.specs.Parts.{a_node_of, a_bot_of}
 use Rattle.text_tokens.specs.Inputs.{Says}
 use Rattle.shape_text.specs.Shapes.{an_area_of, written_bot, AreBots, IsShape, IsFinal}
 

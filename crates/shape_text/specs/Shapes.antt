@@ -26,7 +26,7 @@ use Rattle.amoebot_state.specs.declared.refusal.WorldRefusal.TheVariants as worl
 use Rattle.amoebot_state.specs.Configs.{Config, walled_frame, with_these, with_bot}
 use Rattle.amoebot_state.specs.Limits.{most_bots, most_walls}
 use Rattle.amoebot_state.specs.Refusals.{bot_fault, is_bad_wall}
-use Rattle.node_text.specs.Parts.{word, is_end, outside, past_most, one_more, may_have_walls, IsWord, IsInt, IsNode, IsBotText}
+use Rattle.shape_text.specs.Parts.{word, is_end, outside, past_most, one_more, may_have_walls, IsWord, IsInt, IsNode, IsBotText}
 
 -- ---- the area
 

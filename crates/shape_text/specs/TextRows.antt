@@ -5,7 +5,7 @@ use Rattle.amoebot_state.specs.declared.bot.Chir.TheVariants.{Plus, Minus}
 use Rattle.amoebot_state.specs.Configs.{frame_of, walled_frame, with_these}
 use Rattle.amoebot_state.specs.Examples.{eight_by_eight}
 use Rattle.shape_text.specs.Shapes.{an_area_of}
-use Rattle.node_text.specs.Parts.{a_node_of}
+use Rattle.shape_text.specs.Parts.{a_node_of}
 use Rattle.shape_text.specs.ShapeRows.{rising, shape_bot}
 use Rattle.shape_text.specs.Texts.{shape_text}
 

@@ -9,7 +9,7 @@ use Rattle.tri_lattice.specs.Extent.{Extent, node_at}
 use Rattle.text_tokens.specs.Lines.{Words, section_text}
 use Rattle.amoebot_state.specs.declared.bot.Bot.{Bot}
 use Rattle.amoebot_state.specs.Configs.{Config}
-use Rattle.node_text.specs.PartTexts.{node_words, bot_words}
+use Rattle.shape_text.specs.PartTexts.{node_words, bot_words}
 
 abbrev pub area_words : Extent → Words
 area_words a = codes "area" ∷ signed_decimal a.x0 ∷ signed_decimal a.y0 ∷ decimal a.w ∷ decimal a.h ∷ []

@@ -10,7 +10,7 @@ use Rattle.amoebot_state.specs.declared.bot.Bot.{Bot}
 use Rattle.amoebot_state.specs.declared.bot.Chir.TheVariants.{Plus}
 use Rattle.amoebot_state.specs.Configs.{walled_frame, with_these}
 use Rattle.amoebot_state.specs.Examples.{eight_by_eight}
-use Rattle.node_text.specs.Parts.{a_node_of}
+use Rattle.shape_text.specs.Parts.{a_node_of}
 use Rattle.shape_text.specs.Shapes.{written_wall, AreWallLines, IsShape, IsFinal}
 use Rattle.shape_text.specs.ShapeRows.{up_to_3, shape_bot}
 

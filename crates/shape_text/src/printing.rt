@@ -5,8 +5,8 @@ ghost use Rattle.text_tokens.specs.Lines.{line_text, lines_text};
 ghost use Rattle.amoebot_state.specs.Limits.{most_vars};
 ghost use Rattle.shape_text.specs.Texts.{area_words, bot_line, present, shape_text, wall_lines};
 
+use crate::{put_bot, put_node};
 use amoebot_state::{NoMemory, World};
-use node_text::{put_bot, put_node};
 use std::alloc::{AllocError, Global};
 use text_tokens::{Lines, Text};
 use tri_lattice::Area;

@@ -6,15 +6,13 @@ ghost use Rattle.text_tokens.specs.declared.refusal.ReadRefusal.TheVariants.{NoM
 ghost use Rattle.text_tokens.specs.Steps.{Gives, ReadsOf, TellsOf, another};
 ghost use Rattle.amoebot_state.specs.{Limits.{most_bots, most_vars, most_walls}, Refusals.{IsBotInRange}};
 ghost use Rattle.tri_lattice.specs.Extent.{most_side};
-ghost use Rattle.node_text.specs.Parts as part;
+ghost use Rattle.shape_text.specs.Parts as part;
 ghost use Rattle.shape_text.specs.Shapes as spec;
 ghost use Rattle.shape_text.specs.Readers as reader;
 ghost use Rattle.shape_text.specs.Views as view;
 
+use crate::{Reading, may_have_walls, read_bot, read_int, read_node, read_word, read_word_within};
 use amoebot_state::{Bot, World, WorldRefusal};
-use node_text::{
-    Reading, may_have_walls, read_bot, read_int, read_node, read_word, read_word_within,
-};
 use std::alloc::Global;
 use text_tokens::{ReadRefusal, RefusalKind, TokenKind, Tokens, refused};
 use tri_lattice::{Area, Node};

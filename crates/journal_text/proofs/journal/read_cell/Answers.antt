@@ -6,7 +6,7 @@ use Rattle.text_tokens.specs.Reading.{Reader, ◌>>=◌, pure}
 use Rattle.amoebot_state.specs.declared.cell.CellName.{CellName}
 use Rattle.amoebot_state.specs.declared.cell.CellName.TheVariants as name
 use Rattle.journal_text.specs.Journals.{is_spot_word}
-use Rattle.node_text.specs.PartReaders.{a_word, a_number, a_node}
+use Rattle.shape_text.specs.PartReaders.{a_word, a_number, a_node}
 use Rattle.journal_text.specs.Readers.{a_cell}
 use Rattle.text_tokens.proofs.Rows.{Left, all_left, first_left, second_left, past_part, part_fails, made_left}
 use Rattle.journal_text.proofs.journal.read_cell.Goals as goal

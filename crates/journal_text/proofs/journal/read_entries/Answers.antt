@@ -4,7 +4,7 @@ use Rattle.text_tokens.specs.Reading.{repeated}
 use Rattle.text_tokens.proofs.StepsLemmas.{another_none, another_some, another_fails}
 use Rattle.text_tokens.proofs.LoopLemmas.{StillReads, loop_begins, loop_goes_on, loop_is_over, loop_fails}
 use Rattle.claim_core.specs.Limits.{most_turns}
-use Rattle.node_text.specs.Parts.{is_end, one_more}
+use Rattle.shape_text.specs.Parts.{is_end, one_more}
 use Rattle.journal_text.specs.Journals.{is_entry, IsEntryBy}
 use Rattle.journal_text.specs.Readers.{an_entry, entries_from, all_entries}
 use Rattle.journal_text.proofs.JournalLaws.{no_pair, entry_elements}

@@ -2,7 +2,7 @@ use Rattle.std.proofs.Common.{◌≤◌, ◌-◌}
 use Rattle.text_tokens.specs.Reading.{repeated}
 use Rattle.text_tokens.proofs.LoopLemmas.{StillReads}
 use Rattle.claim_core.specs.Limits.{most_turns}
-use Rattle.node_text.specs.Parts.{one_more}
+use Rattle.shape_text.specs.Parts.{one_more}
 use Rattle.journal_text.specs.Journals.{is_entry}
 use Rattle.journal_text.specs.Readers.{an_entry, all_entries}
 use Rattle.journal_text.proofs.journal.read_entries.Given as goal

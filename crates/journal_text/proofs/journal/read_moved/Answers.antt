@@ -5,8 +5,8 @@ use Rattle.text_tokens.specs.Cursor.{Cursor, next_passes}
 use Rattle.text_tokens.specs.Reading.{Reader, pure, the_line, either}
 use Rattle.amoebot_state.specs.declared.verdict.Moved.{Moved}
 use Rattle.amoebot_state.specs.declared.verdict.Moved.TheVariants as moved
-use Rattle.node_text.specs.Parts.{word}
-use Rattle.node_text.specs.PartReaders.{means}
+use Rattle.shape_text.specs.Parts.{word}
+use Rattle.shape_text.specs.PartReaders.{means}
 use Rattle.journal_text.specs.Readers.{port_behind, end_behind, moved_by, a_contraction, a_movement}
 use Rattle.text_tokens.proofs.Rows.{Left, all_left, first_left, second_left, part_fails, made_left}
 use Rattle.journal_text.proofs.journal.read_moved.Goals as goal

@@ -5,8 +5,8 @@ use Rattle.text_tokens.specs.Cursor.{Cursor, next_passes}
 use Rattle.text_tokens.specs.Reading.{Reader, ◌>>=◌, pure, the_line}
 use Rattle.amoebot_state.specs.declared.cell.Cell.{Cell}
 use Rattle.amoebot_state.specs.declared.cell.Cell.TheVariants as cell
-use Rattle.node_text.specs.Parts.{word}
-use Rattle.node_text.specs.PartReaders.{means, a_number}
+use Rattle.shape_text.specs.Parts.{word}
+use Rattle.shape_text.specs.PartReaders.{means, a_number}
 use Rattle.journal_text.specs.Readers.{an_occupant}
 use Rattle.text_tokens.proofs.Rows.{Left, all_left, first_left, second_left, part_fails, made_left}
 use Rattle.journal_text.proofs.journal.read_occupant.Goals as goal

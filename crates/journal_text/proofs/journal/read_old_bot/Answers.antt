@@ -2,7 +2,7 @@ use Rattle.std.proofs.Common.{Some, codes}
 use Rattle.std.proofs.lemmas.Result.{err_from_is_err_and}
 use Rattle.amoebot_state.specs.declared.bot.Bot.{Bot}
 use Rattle.amoebot_state.specs.declared.cell.Cell.TheVariants as cell
-use Rattle.node_text.specs.PartReaders.{a_word, a_bot}
+use Rattle.shape_text.specs.PartReaders.{a_word, a_bot}
 use Rattle.journal_text.specs.Readers.{a_bot_value}
 use Rattle.text_tokens.specs.Reading.{pure}
 use Rattle.text_tokens.proofs.StepsLemmas.{fails, on_made}

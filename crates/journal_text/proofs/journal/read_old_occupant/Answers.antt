@@ -1,7 +1,7 @@
 use Rattle.std.proofs.Common.{Some, codes}
 use Rattle.std.proofs.lemmas.Result.{err_from_is_err_and}
 use Rattle.amoebot_state.specs.declared.cell.Cell.TheVariants as cell
-use Rattle.node_text.specs.PartReaders.{a_word}
+use Rattle.shape_text.specs.PartReaders.{a_word}
 use Rattle.journal_text.specs.Readers.{an_occupant}
 use Rattle.text_tokens.specs.Reading.{pure}
 use Rattle.text_tokens.proofs.Rows.{past_part, part_fails, made_left}

@@ -5,7 +5,7 @@ use Rattle.text_tokens.specs.Reading.{one_within, the_line, numeral, either, lim
 use Rattle.text_tokens.proofs.CombinatorLemmas.{exact_law}
 use Rattle.text_tokens.proofs.SaysLemmas.{IsSaid, says}
 use Rattle.journal_text.specs.Journals.{AreEntriesBy, entry_by, IsJournal}
-use Rattle.node_text.specs.PartReaders.{an_int, a_node, an_end, a_chirality, a_port_text, a_bot}
+use Rattle.shape_text.specs.PartReaders.{an_int, a_node, an_end, a_chirality, a_port_text, a_bot}
 use Rattle.journal_text.specs.Readers.{port_behind, end_behind, a_movement, a_cell, an_occupant, a_value, an_old_value, a_pair, all_pairs, the_numbers, entry_word, a_written_entry, an_entry, entries_from, journal_by, journal}
 use Rattle.journal_text.proofs.JournalLaws.{part_journal_of, exact_journal, exact_entries}
 use Rattle.journal_text.proofs.laws.journal_is_decided.Goals as goal

@@ -5,7 +5,7 @@ use Rattle.text_tokens.specs.Reading.{one_within, the_line, numeral, either, lim
 use Rattle.text_tokens.proofs.CombinatorLemmas.{exact_law}
 use Rattle.text_tokens.proofs.SaysLemmas.{IsSaid, says}
 use Rattle.journal_text.specs.Turns.{names_failure, IsTurns}
-use Rattle.node_text.specs.PartReaders.{an_int, a_node}
+use Rattle.shape_text.specs.PartReaders.{an_int, a_node}
 use Rattle.journal_text.specs.Readers.{a_cell, placed_mark, a_failed, a_claimant, a_busy, a_mark, a_turn, all_turn_lines, the_turns}
 use Rattle.journal_text.proofs.TurnLaws.{part_the_turns, exact_turns}
 use Rattle.journal_text.proofs.laws.turns_are_decided.Goals as goal

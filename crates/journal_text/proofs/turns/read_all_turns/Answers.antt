@@ -4,7 +4,7 @@ use Rattle.text_tokens.specs.Reading.{pure}
 use Rattle.text_tokens.specs.Lawful.{always}
 use Rattle.text_tokens.proofs.StepsLemmas.{fails, on_made}
 use Rattle.text_tokens.proofs.LoopLemmas.{loop_begins, loop_goes_on, loop_falls, loop_is_over, loop_fails}
-use Rattle.node_text.specs.Parts.{is_end}
+use Rattle.shape_text.specs.Parts.{is_end}
 use Rattle.journal_text.specs.Turns.{is_turn, as_before}
 use Rattle.journal_text.specs.Readers.{turn_in, all_turn_lines}
 use Rattle.journal_text.proofs.TurnLaws.{TurnIn, turn_elements}

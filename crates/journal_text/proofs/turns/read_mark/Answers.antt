@@ -3,7 +3,7 @@ use Rattle.std.specs.Prelude.{codes}
 use Rattle.text_tokens.specs.Cursor.{Cursor, next_passes}
 use Rattle.text_tokens.specs.Reading.{Reader, either}
 use Rattle.text_tokens.proofs.Rows.{Left, all_left, first_left, second_left, gives_left}
-use Rattle.node_text.specs.Parts.{word}
+use Rattle.shape_text.specs.Parts.{word}
 use Rattle.journal_text.specs.Turns.{Nothing}
 use Rattle.journal_text.specs.Readers.{placed_mark, a_failed, a_busy, a_mark}
 use Rattle.journal_text.proofs.turns.read_mark.Goals as goal

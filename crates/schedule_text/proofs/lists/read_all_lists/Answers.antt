@@ -7,7 +7,7 @@ use Rattle.text_tokens.specs.Reading.{pure, repeated}
 use Rattle.text_tokens.proofs.StepsLemmas.{fails, on_made}
 use Rattle.text_tokens.proofs.LoopLemmas.{StillReads, loop_begins, loop_goes_on, loop_is_over, loop_fails}
 use Rattle.claim_core.specs.Turns.{CallerLists, AreFew}
-use Rattle.node_text.specs.Parts.{is_end, one_more}
+use Rattle.shape_text.specs.Parts.{is_end, one_more}
 use Rattle.schedule_text.specs.Lists.{is_list, lists_of, IsCallerList}
 use Rattle.schedule_text.specs.Readers.{a_list, lists_from, all_lists}
 use Rattle.schedule_text.proofs.ListLaws.{no_number, list_elements}

@@ -3,7 +3,7 @@ use Rattle.text_tokens.specs.Reading.{repeated}
 use Rattle.text_tokens.proofs.LoopLemmas.{StillReads}
 use Rattle.claim_core.specs.Limits.{most_callers}
 use Rattle.claim_core.specs.Turns.{HaveBots}
-use Rattle.node_text.specs.Parts.{one_more}
+use Rattle.shape_text.specs.Parts.{one_more}
 use Rattle.schedule_text.specs.Lists.{is_list}
 use Rattle.schedule_text.specs.Readers.{a_list, lists_from}
 use Rattle.schedule_text.proofs.lists.read_all_lists.Given as goal

@@ -7,7 +7,7 @@ use Rattle.text_tokens.specs.Lawful.{always}
 use Rattle.text_tokens.proofs.StepsLemmas.{fails}
 use Rattle.text_tokens.proofs.LoopLemmas.{StillReads, loop_chains, loop_goes_on, loop_is_over, loop_fails}
 use Rattle.claim_core.specs.Limits.{most_ids}
-use Rattle.node_text.specs.Parts.{one_more}
+use Rattle.shape_text.specs.Parts.{one_more}
 use Rattle.schedule_text.specs.Lists.{IsId}
 use Rattle.schedule_text.specs.Readers.{an_id, ids_from, all_ids}
 use Rattle.schedule_text.proofs.ListLaws.{no_number, id_elements}

@@ -3,7 +3,7 @@ use Rattle.std.specs.List.{All}
 use Rattle.text_tokens.specs.Reading.{is_number, repeated}
 use Rattle.text_tokens.proofs.LoopLemmas.{StillReads}
 use Rattle.claim_core.specs.Limits.{most_ids}
-use Rattle.node_text.specs.Parts.{one_more}
+use Rattle.shape_text.specs.Parts.{one_more}
 use Rattle.schedule_text.specs.Readers.{an_id, all_ids}
 use Rattle.schedule_text.proofs.lists.read_ids.Given as goal
 

@@ -7,7 +7,7 @@ use Rattle.std.proofs.lemmas.Result.{err_from_is_err_and}
 use Rattle.text_tokens.specs.Reading.{pure, is_number}
 use Rattle.text_tokens.proofs.StepsLemmas.{fails, on_made}
 use Rattle.text_tokens.proofs.LoopLemmas.{loop_begins, loop_goes_on, loop_is_over, loop_fails}
-use Rattle.node_text.specs.Parts.{is_end}
+use Rattle.shape_text.specs.Parts.{is_end}
 use Rattle.schedule_text.specs.Schedules.{Stretch, AreTimes, more_steps, steps_in, steps_of, IsStretch}
 use Rattle.schedule_text.specs.Readers.{a_stretch, stretches_from, all_steps}
 use Rattle.schedule_text.specs.Views as view

@@ -9,8 +9,8 @@ use Rattle.text_tokens.specs.Cursor.{Cursor, number_value, slice}
 use Rattle.text_tokens.specs.Reading.{one, one_within, no_limit, pure, is_number, lexeme_value, the_line, numeral}
 use Rattle.text_tokens.specs.Steps.{lexeme_of}
 use Rattle.text_tokens.proofs.StepsLemmas.{Reached, took, missed, goes_past, on, fails, on_made}
-use Rattle.node_text.specs.Parts.{outside}
-use Rattle.node_text.proofs.Outside.{outlying, inside}
+use Rattle.shape_text.specs.Parts.{outside}
+use Rattle.shape_text.proofs.Outside.{outlying, inside}
 use Rattle.shape_files.specs.Frame.{is_header_word, greatest_version}
 use Rattle.shape_files.specs.FrameReaders.{header_from}
 use Rattle.shape_files.proofs.head.read_version.Goals as goal

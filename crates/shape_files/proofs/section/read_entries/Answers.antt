@@ -4,7 +4,7 @@ use Rattle.text_tokens.specs.Reading.{◌>>=◌, pure}
 use Rattle.text_tokens.proofs.StepsLemmas.{Reached, Failed}
 use Rattle.amoebot_state.specs.declared.verdict.Entry.{Entry}
 use Rattle.amoebot_state.specs.declared.verdict.PlainEntry.{PlainEntry}
-use Rattle.node_text.specs.Parts.{has_old_values}
+use Rattle.shape_text.specs.Parts.{has_old_values}
 use Rattle.journal_text.specs.Journals.{IsJournal, IsPlainJournal}
 use Rattle.journal_text.specs.Readers.{journal, plain_journal}
 use Rattle.journal_text.proofs.JournalLaws.{exact_journal, exact_plain_journal}

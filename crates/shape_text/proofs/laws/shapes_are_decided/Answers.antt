@@ -4,7 +4,7 @@ use Rattle.text_tokens.specs.Cursor.{same_kind}
 use Rattle.text_tokens.specs.Reading.{one_within, the_line, numeral, either, times, elements, repeated}
 use Rattle.text_tokens.proofs.CombinatorLemmas.{exact_law}
 use Rattle.amoebot_state.specs.Examples.{zeros}
-use Rattle.node_text.specs.PartReaders.{an_int, a_node, a_chirality, a_bot}
+use Rattle.shape_text.specs.PartReaders.{an_int, a_node, a_chirality, a_bot}
 use Rattle.text_tokens.proofs.SaysLemmas.{IsSaid, says}
 use Rattle.shape_text.specs.Shapes.{AreBots, IsShape, IsFinal}
 use Rattle.shape_text.specs.ShapeRows.{up_to_3, rising}

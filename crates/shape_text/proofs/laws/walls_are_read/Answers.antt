@@ -3,7 +3,7 @@ use Rattle.text_tokens.specs.Scan.{skip, ready, sign_len, front, scan, scan_end,
 use Rattle.text_tokens.specs.Cursor.{same_kind}
 use Rattle.text_tokens.specs.Reading.{one_within, the_line, numeral, either, times, elements, repeated}
 use Rattle.text_tokens.proofs.SaysLemmas.{IsSaid, says}
-use Rattle.node_text.specs.PartReaders.{an_int, a_node, a_chirality, a_bot}
+use Rattle.shape_text.specs.PartReaders.{an_int, a_node, a_chirality, a_bot}
 use Rattle.shape_text.specs.Shapes.{AreWallLines, IsShape, IsFinal}
 use Rattle.shape_text.specs.ShapeRows.{up_to_3}
 use Rattle.shape_text.specs.Readers.{a_side, an_area, wall_word, a_wall_line, walls_from, bot_word, a_bot_line, bots_from, a_drawing, a_written_shape, shape_under, a_shape, a_final}

@@ -1,6 +1,6 @@
 use Rattle.std.proofs.Common.{◌<◌, length, None, Some, ap, sym, ◌∙◌, codes, arith}
 use Rattle.std.proofs.lemmas.Option.{slice_get-get_or}
-use Rattle.node_text.specs.PartTexts.{bot_words}
+use Rattle.shape_text.specs.PartTexts.{bot_words}
 use Rattle.shape_text.specs.Texts.{bot_line}
 use Rattle.text_tokens.proofs.LineLemmas.{line_made, line_more}
 use Rattle.shape_text.proofs.NextLines.{bot_next}

@@ -7,7 +7,7 @@ use Rattle.amoebot_state.specs.Walls.{has_number}
 use Rattle.amoebot_state.proofs.Members.{Has}
 use Rattle.amoebot_state.proofs.RisingLists.{Rising}
 use Rattle.amoebot_state.proofs.Walls.{rising_numbers, has_number-Has}
-use Rattle.node_text.specs.PartTexts.{node_words}
+use Rattle.shape_text.specs.PartTexts.{node_words}
 use Rattle.text_tokens.specs.Lines.{spaced, lines_text}
 use Rattle.text_tokens.proofs.LineLemmas.{line_made, line_more}
 use Rattle.shape_text.specs.Texts.{wall_words, wall_lines}

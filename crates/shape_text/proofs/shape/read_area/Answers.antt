@@ -9,7 +9,7 @@ use Rattle.text_tokens.specs.Reading.{Reader, ◌>>=◌, pure}
 use Rattle.text_tokens.specs.Steps.{Gives}
 use Rattle.text_tokens.proofs.StepsLemmas.{Reached}
 use Rattle.tri_lattice.specs.Extent.{Extent, IsArea}
-use Rattle.node_text.specs.PartReaders.{a_word, an_int}
+use Rattle.shape_text.specs.PartReaders.{a_word, an_int}
 use Rattle.shape_text.specs.Readers.{a_side, an_area}
 use Rattle.shape_text.specs.Shapes.{an_area_of}
 use Rattle.text_tokens.proofs.Rows.{all_left, past_part}

@@ -8,7 +8,7 @@ use Rattle.text_tokens.specs.Lawful.{always}
 use Rattle.text_tokens.proofs.LoopLemmas.{StillReads, loop_begins, loop_goes_on, loop_is_over, loop_fails}
 use Rattle.amoebot_state.specs.Limits.{most_bots}
 use Rattle.amoebot_state.specs.Refusals.{IsBotInRange}
-use Rattle.node_text.specs.Parts.{is_end, one_more}
+use Rattle.shape_text.specs.Parts.{is_end, one_more}
 use Rattle.shape_text.specs.declared.shape.WrittenBot.{WrittenBot}
 use Rattle.shape_text.specs.Shapes.{is_bot, IsBotLine}
 use Rattle.shape_text.specs.Readers.{a_bot_line, bots_from, all_bots}

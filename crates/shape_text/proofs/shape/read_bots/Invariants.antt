@@ -4,7 +4,7 @@ use Rattle.text_tokens.specs.Reading.{repeated}
 use Rattle.text_tokens.proofs.LoopLemmas.{StillReads}
 use Rattle.amoebot_state.specs.Limits.{most_bots}
 use Rattle.amoebot_state.specs.Refusals.{IsBotInRange}
-use Rattle.node_text.specs.Parts.{one_more}
+use Rattle.shape_text.specs.Parts.{one_more}
 use Rattle.shape_text.specs.Shapes.{is_bot}
 use Rattle.shape_text.specs.Readers.{a_bot_line, all_bots}
 use Rattle.shape_text.specs.Views as view

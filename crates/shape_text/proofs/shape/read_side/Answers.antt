@@ -3,8 +3,8 @@ use Rattle.std.proofs.lemmas.Result.{err_from_is_err_and}
 use Rattle.text_tokens.specs.declared.refusal.RefusalKind.TheVariants.{BadRange}
 use Rattle.text_tokens.specs.Steps.{lexeme_of}
 use Rattle.text_tokens.proofs.TakenTokens.{number_missed, number_past, value_is, number_taken}
-use Rattle.node_text.specs.Parts.{outside}
-use Rattle.node_text.proofs.Outside.{outlying, inside}
+use Rattle.shape_text.specs.Parts.{outside}
+use Rattle.shape_text.proofs.Outside.{outlying, inside}
 use Rattle.shape_text.specs.Readers.{a_side}
 use Rattle.shape_text.proofs.shape.read_side.Goals as goal
 

@@ -5,7 +5,7 @@ use Rattle.text_tokens.specs.Reading.{repeated}
 use Rattle.text_tokens.specs.Lawful.{always}
 use Rattle.text_tokens.proofs.LoopLemmas.{StillReads, loop_begins, loop_goes_on, loop_is_over, loop_fails}
 use Rattle.amoebot_state.specs.Limits.{most_walls}
-use Rattle.node_text.specs.Parts.{one_more}
+use Rattle.shape_text.specs.Parts.{one_more}
 use Rattle.shape_text.specs.Shapes.{is_wall_word, IsWallLine}
 use Rattle.shape_text.specs.Readers.{a_wall_line, walls_from, all_walls}
 use Rattle.shape_text.specs.Views as view

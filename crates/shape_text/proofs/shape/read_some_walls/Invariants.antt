@@ -2,7 +2,7 @@ use Rattle.std.proofs.Common.{◌≡◌, ◌≤◌, ◌-◌, true, map, vec_len}
 use Rattle.text_tokens.specs.Reading.{repeated}
 use Rattle.text_tokens.proofs.LoopLemmas.{StillReads}
 use Rattle.amoebot_state.specs.Limits.{most_walls}
-use Rattle.node_text.specs.Parts.{one_more}
+use Rattle.shape_text.specs.Parts.{one_more}
 use Rattle.shape_text.specs.Shapes.{is_wall_word}
 use Rattle.shape_text.specs.Readers.{a_wall_line, all_walls}
 use Rattle.shape_text.specs.Views as view

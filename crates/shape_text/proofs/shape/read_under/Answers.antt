@@ -7,7 +7,7 @@ use Rattle.text_tokens.specs.Reading.{pure, judge, judged}
 use Rattle.text_tokens.specs.Steps.{Gives}
 use Rattle.text_tokens.proofs.StepsLemmas.{Reached, fails, on_made, judged_wrong, judged_fine}
 use Rattle.amoebot_state.specs.Configs.{Config}
-use Rattle.node_text.specs.Parts.{may_have_walls}
+use Rattle.shape_text.specs.Parts.{may_have_walls}
 use Rattle.shape_text.specs.Shapes.{WrittenShape, shape_fault, stands_for}
 use Rattle.shape_text.specs.Readers.{a_written_shape, shape_under}
 use Rattle.shape_text.specs.Views as view

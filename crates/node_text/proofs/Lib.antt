@@ -1,4 +1,0 @@
-pub mod PartLaws
-pub mod PartsReread
-pub mod Meanings
-pub mod Outside
