@@ -28,6 +28,7 @@ pub mod ExampleLemmas
 pub mod StepExamples
 pub mod Shifts
 pub mod Shows
+pub mod Stays
 pub mod Stored
 pub mod Values
 pub mod Walls

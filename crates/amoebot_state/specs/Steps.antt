@@ -1,7 +1,7 @@
 -- What a decider promises, and the steps and runs of the model: one activation after another.
 -- Activations and their sequential runs are the paper's; deciders,
 -- patches and what they promise are this project's profile.
-use Rattle.std.specs.Prelude.{◌≡◌, ◌≢◌, ℕ, List, [], ◌∷◌, IsSome}
+use Rattle.std.specs.Prelude.{◌≡◌, ◌≢◌, ◌≤◌, ℕ, List, [], ◌∷◌, length, take, IsSome}
 use Rattle.std.specs.List.{All, Contains}
 use Rattle.std.specs.declared.option.Option.TheVariants.{Some}
 use Rattle.amoebot_state.specs.declared.cell.CellName.{CellName}
@@ -106,3 +106,10 @@ pub record Step (f : Shown → Verdict) (old : Config) (e : Entry) (new : Config
 abbrev pub Run : (Shown → Verdict) → Config → List Entry → Config → Type 0
 Run f old [] last = last ≡ old
 Run f old (e ∷ es) last = (mid : Config) × Step f old e mid × Run f mid es last
+
+-- the world at a place of a journal: the one that so many of its entries lead to from the first
+-- world, of which there is at most one
+pub record IsWorldAt (f : Shown → Verdict) (first : Config)
+    (entries : List Entry) (place : ℕ) (world : Config) : Type 0 where
+  pub within : place ≤ length entries
+  pub reached : Run f first (take place entries) world

@@ -16,13 +16,13 @@ use Rattle.claim_core.specs.declared.state.Phase.{Phase}
 use Rattle.claim_core.specs.declared.state.Phase.TheVariants.{Claim, Refusing, Looking, Taking, Committing, Releasing, Ended}
 use Rattle.claim_core.specs.declared.state.Caller.{Caller}
 use Rattle.claim_core.specs.declared.state.Committed.{Committed}
-use Rattle.claim_core.specs.Good.{IsWorldAt}
+use Rattle.amoebot_state.specs.Steps.{IsWorldAt}
 use Rattle.claim_core.specs.Cells.{number, at}
 use Rattle.claim_core.specs.Machine.{Setup, State, bot, found, entry, next_of, wins, claims, finds, tries, takes, releases, by_phase, acts, next, after, commit_of, commit_by, committed}
 use Rattle.claim_core.specs.Soundness.{HasFront, Sound}
 use Rattle.claim_core.specs.Reached.{entries_of, placed, IsShownAt}
 use Rattle.claim_core.specs.Laws.{CommittedIsJournal, CommittedIsShown}
-use Rattle.claim_core.proofs.Stays.{IsWorldAt-append, world_last}
+use Rattle.amoebot_state.proofs.Stays.{IsWorldAt-append, world_last}
 use Rattle.claim_core.proofs.Fronts.{whole_shown}
 use Rattle.claim_core.proofs.HolderLemmas.{framed, valued}
 use Rattle.claim_core.proofs.Sounds.{always}

@@ -15,19 +15,19 @@ use Rattle.amoebot_state.specs.Pairs.{Pairs, cell_of, cell_value, plain_patch}
 use Rattle.amoebot_state.specs.Configs.{Config, bot_at}
 use Rattle.amoebot_state.specs.Zones.{zone}
 use Rattle.amoebot_state.specs.Patches.{IsPatched}
-use Rattle.amoebot_state.specs.Steps.{DecidesChange, Step, Run}
+use Rattle.amoebot_state.specs.Steps.{DecidesChange, Step, Run, IsWorldAt}
 use Rattle.amoebot_state.proofs.Fronts.{slice_get_behind}
 use Rattle.amoebot_state.proofs.Members.{Has, All-from_Has, Contains-from_Has}
 use Rattle.claim_core.specs.declared.marks.Mark.{Mark}
 use Rattle.claim_core.specs.declared.marks.Mark.TheVariants as mark
 use Rattle.claim_core.specs.declared.state.Phase.TheVariants.{Taking, Committing}
 use Rattle.claim_core.specs.declared.state.Caller.{Caller}
-use Rattle.claim_core.specs.Good.{IsWorldAt, IsListed, Order, mark_of_turn, place_of, place_after}
+use Rattle.claim_core.specs.Good.{IsListed, Order, mark_of_turn, place_of, place_after}
 use Rattle.claim_core.specs.Cells.{values_of, patched}
 use Rattle.claim_core.specs.Machine.{Setup, State, bot, patched_pair, freeing_caller, entry, takes, commits}
 use Rattle.claim_core.specs.Soundness.{IsSetup, names, IsCommitting, marked, IsTurn, marks_so_far, HasDecision, HasFront, IsHeld, CallerOk, Sound}
 use Rattle.amoebot_state.proofs.Runs.{run_push}
-use Rattle.claim_core.proofs.Stays.{slice_get-pushed, world_last}
+use Rattle.amoebot_state.proofs.Stays.{slice_get-pushed, world_last}
 use Rattle.claim_core.proofs.Places.{one_at}
 use Rattle.claim_core.proofs.Numbers.{value_patched, values-patched, length-patched}
 use Rattle.claim_core.proofs.Nexts.{frees-marks, frees-held}
@@ -143,7 +143,7 @@ module _ (g : Setup) (ok : IsSetup g) (old : State) (s : Sound g old) (c : ℕ) 
     run = run_push g.verdict g.world s.last last old.journal e s.run step
 
     more_here : IsWorldAt g.verdict g.world new.journal (length old.journal) s.last
-    more_here = Rattle.claim_core.proofs.Stays.IsWorldAt-append g.verdict g.world s.last old.journal (e ∷ []) (length old.journal) here_now
+    more_here = Rattle.amoebot_state.proofs.Stays.IsWorldAt-append g.verdict g.world s.last old.journal (e ∷ []) (length old.journal) here_now
 
     same_names : names cells ≡ names k.held
     same_names = names-renewed (plain_patch change.patch) k.held

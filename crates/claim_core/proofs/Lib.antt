@@ -22,7 +22,6 @@ pub mod ReportLemmas
 pub mod ReportsExist
 pub mod Seats
 pub mod Sounds
-pub mod Stays
 pub mod Steady
 pub mod MachineLemmas
 pub mod Merging

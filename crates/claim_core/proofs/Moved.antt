@@ -11,17 +11,17 @@ use Rattle.amoebot_state.specs.declared.verdict.Verdict.{Verdict}
 use Rattle.amoebot_state.specs.declared.verdict.Verdict.TheVariants as verdict
 use Rattle.amoebot_state.specs.Configs.{Config}
 use Rattle.amoebot_state.specs.Zones.{shown_with, zone}
-use Rattle.amoebot_state.specs.Steps.{Run}
+use Rattle.amoebot_state.specs.Steps.{Run, IsWorldAt}
 use Rattle.claim_core.specs.declared.marks.Mark.{Mark}
 use Rattle.claim_core.specs.declared.marks.Mark.TheVariants as mark
 use Rattle.claim_core.specs.declared.state.Phase.{Phase}
 use Rattle.claim_core.specs.declared.state.Phase.TheVariants.{Claim, Refusing, Looking, Taking, Committing, Releasing, Ended}
 use Rattle.claim_core.specs.declared.state.Caller.{Caller}
-use Rattle.claim_core.specs.Good.{IsWorldAt, HasVerdict, HasInZone, Order, mark_of_turn, place_of, place_after}
+use Rattle.claim_core.specs.Good.{HasVerdict, HasInZone, Order, mark_of_turn, place_of, place_after}
 use Rattle.claim_core.specs.Cells.{number, at, values_of}
 use Rattle.claim_core.specs.Machine.{Setup, State, bot}
 use Rattle.claim_core.specs.Soundness.{IsSetup, names, verdict_of, IsCommitting, marks_so_far, Holds, HasHeld, IsHolder, TurnOkSoFar, IsRefusedPhase, HasDecision, HasFront, IsHeld, CallerOk, Sound}
-use Rattle.claim_core.proofs.Stays.{slice_get-pushed, IsWorldAt-append}
+use Rattle.amoebot_state.proofs.Stays.{slice_get-pushed, IsWorldAt-append}
 use Rattle.claim_core.proofs.Places.{get-set_here, get-set_else, get-set_cases, get-map, get-append_left, one_at}
 use Rattle.claim_core.proofs.Fronts.{Valued, whole_shown, front_kept, whole_kept}
 use Rattle.claim_core.proofs.Frames.{IsFramed, run_framed, own_stays}

@@ -23,11 +23,12 @@ use Rattle.claim_core.specs.declared.state.Look.{Look}
 use Rattle.claim_core.specs.declared.state.Look.TheVariants as look
 use Rattle.claim_core.specs.declared.state.Phase.TheVariants.{Claim, Refusing, Looking, Releasing, Ended}
 use Rattle.claim_core.specs.declared.state.Caller.{Caller}
-use Rattle.claim_core.specs.Good.{IsWorldAt, HasInZone, place_of, place_after}
+use Rattle.amoebot_state.specs.Steps.{IsWorldAt}
+use Rattle.claim_core.specs.Good.{HasInZone, place_of, place_after}
 use Rattle.claim_core.specs.Cells.{number, at}
 use Rattle.claim_core.specs.Machine.{Setup, State, bot, own_tag, opening_phase, freeing_caller, looks, mark_of_look, busy_mark, releases}
 use Rattle.claim_core.specs.Soundness.{IsSetup, names, IsCommitting, marked, IsTurn, TurnOkSoFar, IsReleasingCaller, HasFront, IsHeld, CallerOk, Sound}
-use Rattle.claim_core.proofs.Stays.{world_last}
+use Rattle.amoebot_state.proofs.Stays.{world_last}
 use Rattle.claim_core.proofs.Places.{at-put_else, at-put_cases}
 use Rattle.claim_core.proofs.Numbers.{same_number}
 use Rattle.claim_core.proofs.Nexts.{frees-marks, frees-held}

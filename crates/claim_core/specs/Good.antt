@@ -1,6 +1,6 @@
 -- When a report is a good one of a run: its journal is a run of the model,
 -- and each mark tells what became of its turn.
-use Rattle.std.specs.Prelude.{◌≡◌, ◌≢◌, ℕ, ◌+◌, ◌<◌, ◌≤◌, List, length, slice_get, take}
+use Rattle.std.specs.Prelude.{◌≡◌, ◌≢◌, ℕ, ◌+◌, ◌<◌, ◌≤◌, List, length, slice_get}
 use Rattle.std.specs.List.{All, AllPairs, Contains}
 use Rattle.std.specs.declared.option.Option.{Option}
 use Rattle.std.specs.declared.option.Option.TheVariants.{Some}
@@ -10,18 +10,11 @@ use Rattle.amoebot_state.specs.declared.verdict.Verdict.{Verdict}
 use Rattle.amoebot_state.specs.declared.verdict.Verdict.TheVariants as verdict
 use Rattle.amoebot_state.specs.Configs.{Config, IsValid}
 use Rattle.amoebot_state.specs.Zones.{Shown, shown, zone}
-use Rattle.amoebot_state.specs.Steps.{Run}
+use Rattle.amoebot_state.specs.Steps.{Run, IsWorldAt}
 use Rattle.claim_core.specs.declared.marks.Mark.{Mark}
 use Rattle.claim_core.specs.declared.marks.Mark.TheVariants as mark
 use Rattle.claim_core.specs.declared.report.Report.{Report}
 use Rattle.claim_core.specs.Turns.{CallerLists, MarkLists, bot_of_turn, marks_of}
-
--- the world at a place of a journal: the one that so many of its entries lead to from the first
--- world, of which there is at most one
-pub record IsWorldAt (f : Shown → Verdict) (first : Config)
-    (entries : List Entry) (place : ℕ) (world : Config) : Type 0 where
-  pub within : place ≤ length entries
-  pub reached : Run f first (take place entries) world
 
 -- what f decides on an amoebot in the world at a place
 abbrev pub HasVerdict : (Shown → Verdict) → Config → List Entry → ℕ → ℕ → Verdict → Type 0

@@ -9,7 +9,7 @@ use Rattle.claim_core.specs.declared.report.Report.{Report}
 use Rattle.claim_core.specs.declared.state.Phase.TheVariants.{Ended}
 use Rattle.claim_core.specs.declared.state.Caller.{Caller}
 use Rattle.claim_core.specs.declared.state.Committed.{Committed}
-use Rattle.claim_core.specs.Good.{IsWorldAt}
+use Rattle.amoebot_state.specs.Steps.{IsWorldAt}
 use Rattle.claim_core.specs.Cells.{values_of}
 use Rattle.claim_core.specs.Machine.{Setup, State, after}
 use Rattle.claim_core.specs.Soundness.{marks_so_far}

@@ -13,7 +13,7 @@ use Rattle.amoebot_state.specs.Limits.{most_bots}
 use Rattle.amoebot_state.specs.Pairs.{Pairs, cell_of, cell_value}
 use Rattle.amoebot_state.specs.Configs.{Config, IsValid, bot_at, value}
 use Rattle.amoebot_state.specs.Zones.{shown, zone}
-use Rattle.amoebot_state.specs.Steps.{Run, TouchesZone, HasPatchedWorld}
+use Rattle.amoebot_state.specs.Steps.{Run, TouchesZone, HasPatchedWorld, IsWorldAt}
 use Rattle.claim_core.specs.declared.marks.Mark.{Mark}
 use Rattle.claim_core.specs.declared.marks.Mark.TheVariants as mark
 use Rattle.claim_core.specs.declared.state.Look.{Look}
@@ -22,7 +22,7 @@ use Rattle.claim_core.specs.declared.state.Phase.{Phase}
 use Rattle.claim_core.specs.declared.state.Phase.TheVariants.{Claim, Refusing, Looking, Taking, Committing, Releasing, Ended}
 use Rattle.claim_core.specs.declared.state.Caller.{Caller}
 use Rattle.claim_core.specs.Turns.{MarkLists, AreLists}
-use Rattle.claim_core.specs.Good.{IsWorldAt, HasVerdict, HasInZone, Order, mark_of_turn, place_of, place_after}
+use Rattle.claim_core.specs.Good.{HasVerdict, HasInZone, Order, mark_of_turn, place_of, place_after}
 use Rattle.claim_core.specs.Tags.{tag_caller, tag_turn, tag_bot}
 use Rattle.claim_core.specs.Cells.{number, at, values_of}
 use Rattle.claim_core.specs.Machine.{Setup, State, bot, own_tag}

@@ -30,7 +30,7 @@ use Rattle.claim_core.proofs.Tags.{tag-positive}
 use Rattle.claim_core.proofs.Fronts.{name_of_held}
 use Rattle.claim_core.proofs.Frames.{own_stays}
 use Rattle.claim_core.proofs.HolderLemmas.{framed, is_known}
-use Rattle.claim_core.proofs.Stays.{IsWorldAt-append, world_last}
+use Rattle.amoebot_state.proofs.Stays.{IsWorldAt-append, world_last}
 use Rattle.claim_core.proofs.Commitments.{entries_of-push}
 use Rattle.claim_rule.specs.declared.views.Record.{Record}
 use Rattle.claim_rule.specs.declared.views.Terms.{Terms}

@@ -17,7 +17,7 @@ use Rattle.claim_core.specs.Cells.{number, at}
 use Rattle.claim_core.specs.Good.{place_of}
 use Rattle.claim_core.specs.Machine.{Setup, State, own_tag, patched_pair}
 use Rattle.claim_core.specs.Soundness.{IsHeld}
-use Rattle.claim_core.proofs.Stays.{slice_get-pushed}
+use Rattle.amoebot_state.proofs.Stays.{slice_get-pushed}
 use Rattle.claim_rule.specs.declared.views.Note.{Note}
 use Rattle.claim_rule.specs.Words.{word_occ, word_stamp}
 use Rattle.claim_rule.specs.Manners.{by_journal, first_plain}

@@ -3,9 +3,8 @@ use Rattle.std.proofs.Common.{◌<◌, ℕ, zero, suc, List, [], ◌∷◌, true
 use Rattle.std.specs.Prelude.{slice_index_or, Bool, Decides, IsSome}
 use Rattle.amoebot_state.specs.declared.verdict.Entry.{Entry}
 use Rattle.amoebot_state.specs.Configs.{bot_at}
-use Rattle.amoebot_state.specs.Steps.{Run, Step, plain_entry}
+use Rattle.amoebot_state.specs.Steps.{Run, Step, plain_entry, IsWorldAt}
 use Rattle.amoebot_state.proofs.Members.{Has, here, later}
-use Rattle.claim_core.specs.Good.{IsWorldAt}
 use Rattle.round_meter.specs.Rounds.{IsSettled, AllSettled, EndsRound, rested, acted, no_round, one_more}
 use Rattle.round_meter.specs.Meters.{GoesOnIn}
 use Rattle.round_meter.proofs.MeterLemmas.{first_is_metered, metered_next}

@@ -25,7 +25,8 @@ use Rattle.claim_core.specs.declared.marks.Mark.{Mark}
 use Rattle.claim_core.specs.declared.marks.Mark.TheVariants as mark
 use Rattle.claim_core.specs.Limits.{most_callers, most_turns}
 use Rattle.claim_core.specs.Turns.{CallerLists, MarkLists, AreFew, HaveBots, bot_of_turn, list_of, marks_of}
-use Rattle.claim_core.specs.Good.{IsWorldAt, HasVerdict, HasInZone, TurnOk, AllTurns, AreMarks}
+use Rattle.amoebot_state.specs.Steps.{IsWorldAt}
+use Rattle.claim_core.specs.Good.{HasVerdict, HasInZone, TurnOk, AllTurns, AreMarks}
 use Rattle.text_tokens.specs.Cursor.{IsShort}
 use Rattle.shape_text.specs.Parts.{may_have_walls}
 use Rattle.journal_text.specs.Rereading.{IsWritableCell, IsWritableFailure, IsWritableMark, AreWritable}

@@ -7,8 +7,8 @@ use Rattle.tri_lattice.specs.Sets.{IsConnected}
 use Rattle.amoebot_state.specs.Configs.{Config}
 use Rattle.amoebot_state.specs.Occupied.{occupied}
 use Rattle.claim_core.specs.declared.report.Report.{Report}
-use Rattle.claim_core.specs.Good.{IsWorldAt}
-use Rattle.claim_core.proofs.Stays.{world_last}
+use Rattle.amoebot_state.specs.Steps.{IsWorldAt}
+use Rattle.amoebot_state.proofs.Stays.{world_last}
 use Rattle.action_tree.specs.Trees.{Program}
 use Rattle.action_meaning.specs.Verdicts.{verdict_shown}
 use Rattle.run_sample.specs.Laws.{SampleIsFit}

@@ -19,7 +19,7 @@ use Rattle.claim_core.specs.Machine.{setup}
 use Rattle.claim_core.specs.Soundness.{IsSetup}
 use Rattle.claim_core.specs.Laws.{OneListIsSerial, ReachedIsGood, RoundsLeaveAReport}
 use Rattle.claim_core.specs.TicketLaws.{TicketReachedIsGood, TicketsLeaveAReport}
-use Rattle.claim_core.proofs.Stays.{world_last}
+use Rattle.amoebot_state.proofs.Stays.{world_last}
 use Rattle.rewind_log.specs.Laws.{UnwoundIsSome}
 use Rattle.rewind_log.specs.Unwinding.{IsUnwound}
 use Rattle.round_meter.specs.Laws.{EachRunIsRounded}

@@ -2,7 +2,7 @@
 use Rattle.std.specs.Prelude.{◌≡◌, ℕ, List}
 use Rattle.amoebot_state.specs.declared.verdict.Entry.{Entry}
 use Rattle.amoebot_state.specs.Configs.{Config}
-use Rattle.claim_core.specs.Good.{IsWorldAt}
+use Rattle.amoebot_state.specs.Steps.{IsWorldAt}
 use Rattle.shape_checks.specs.Values.{value_count}
 use Rattle.action_meaning.specs.Verdicts.{verdict_shown}
 use Rattle.election_law.specs.Elections.{IsErosion, IsReadyStart, IsElected, cand_var, leader_of}

@@ -6,7 +6,8 @@ use Rattle.amoebot_state.specs.Configs.{Config}
 use Rattle.amoebot_state.specs.Occupied.{occupied}
 use Rattle.claim_core.specs.declared.report.Report.{Report}
 use Rattle.claim_core.specs.Turns.{CallerLists}
-use Rattle.claim_core.specs.Good.{Good, IsWorldAt}
+use Rattle.amoebot_state.specs.Steps.{IsWorldAt}
+use Rattle.claim_core.specs.Good.{Good}
 use Rattle.claim_core.specs.Reached.{Reached}
 use Rattle.action_tree.specs.Trees.{Program}
 use Rattle.action_meaning.specs.Verdicts.{verdict_shown}

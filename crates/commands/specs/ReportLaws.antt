@@ -5,12 +5,12 @@ use Rattle.tri_lattice.specs.Sets.{IsConnected}
 use Rattle.amoebot_state.specs.declared.verdict.Entry.{Entry}
 use Rattle.amoebot_state.specs.declared.verdict.Verdict.{Verdict}
 use Rattle.amoebot_state.specs.Configs.{Config, IsValid, bot_at}
-use Rattle.amoebot_state.specs.Steps.{HasPatchedWorld}
+use Rattle.amoebot_state.specs.Steps.{HasPatchedWorld, IsWorldAt}
 use Rattle.amoebot_state.specs.Occupied.{occupied}
 use Rattle.amoebot_state.specs.Zones.{Shown}
 use Rattle.claim_core.specs.declared.report.Report.{Report}
 use Rattle.claim_core.specs.Turns.{CallerLists}
-use Rattle.claim_core.specs.Good.{Good, IsWorldAt}
+use Rattle.claim_core.specs.Good.{Good}
 use Rattle.claim_core.specs.Machine.{Setup}
 use Rattle.claim_core.specs.Reached.{Reached}
 use Rattle.text_tokens.specs.declared.refusal.Refusal.{Refusal}

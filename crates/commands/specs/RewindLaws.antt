@@ -3,8 +3,7 @@ use Rattle.std.specs.Prelude.{◌≡◌, ℕ, List, length, codes}
 use Rattle.std.specs.declared.option.Option.TheVariants.{Some, None}
 use Rattle.amoebot_state.specs.declared.verdict.Entry.{Entry}
 use Rattle.amoebot_state.specs.Configs.{Config}
-use Rattle.amoebot_state.specs.Steps.{Run}
-use Rattle.claim_core.specs.Good.{IsWorldAt}
+use Rattle.amoebot_state.specs.Steps.{Run, IsWorldAt}
 use Rattle.action_meaning.specs.Verdicts.{verdict_shown}
 use Rattle.shape_files.specs.Documents.{Contents}
 use Rattle.shape_text.specs.Texts.{shape_text}

@@ -3,7 +3,7 @@ use Rattle.std.specs.Prelude.{◌≡◌, ◌↔◌, ◌⊎◌, ℕ, List, IsTrue
 use Rattle.std.specs.declared.option.Option.TheVariants.{Some}
 use Rattle.amoebot_state.specs.declared.verdict.Entry.{Entry}
 use Rattle.amoebot_state.specs.Configs.{Config, IsValid}
-use Rattle.claim_core.specs.Good.{IsWorldAt}
+use Rattle.amoebot_state.specs.Steps.{IsWorldAt}
 use Rattle.action_tree.specs.Trees.{Program}
 use Rattle.action_tree.specs.Shipped.{erosion}
 use Rattle.action_meaning.specs.Verdicts.{verdict_on, verdict_shown}

@@ -7,10 +7,9 @@ use Rattle.amoebot_state.specs.declared.verdict.Entry.{Entry}
 use Rattle.amoebot_state.specs.declared.verdict.Verdict.{Verdict}
 use Rattle.amoebot_state.specs.Configs.{Config}
 use Rattle.amoebot_state.specs.Zones.{Shown}
-use Rattle.amoebot_state.specs.Steps.{Run}
+use Rattle.amoebot_state.specs.Steps.{Run, IsWorldAt}
 use Rattle.amoebot_state.proofs.Fronts.{slice_get_left}
-use Rattle.claim_core.specs.Good.{IsWorldAt}
-use Rattle.claim_core.proofs.Stays.{slice_get-pushed, world_last, IsWorldAt-append}
+use Rattle.amoebot_state.proofs.Stays.{slice_get-pushed, world_last, IsWorldAt-append}
 use Rattle.round_meter.specs.Rounds.{IsSettled, rested, acted, enabled_in}
 use Rattle.round_meter.proofs.WorldsAt.{below_there, there_still, one_world_at, world_before}
 

@@ -7,10 +7,9 @@ use Rattle.amoebot_state.specs.declared.verdict.Entry.{Entry}
 use Rattle.amoebot_state.specs.declared.verdict.Verdict.{Verdict}
 use Rattle.amoebot_state.specs.Configs.{Config}
 use Rattle.amoebot_state.specs.Zones.{Shown}
-use Rattle.amoebot_state.specs.Steps.{Run}
+use Rattle.amoebot_state.specs.Steps.{Run, IsWorldAt}
 use Rattle.amoebot_state.proofs.Fronts.{slice_get_left}
 use Rattle.amoebot_state.proofs.Patched.{run_has_one_last}
-use Rattle.claim_core.specs.Good.{IsWorldAt}
 
 -- where an entry stands, the journal goes on
 pub below_there : {X : Type 0} (xs : List X) (k : ℕ) (x : X) → slice_get xs k ≡ Some x → k < length xs
