@@ -1,6 +1,6 @@
 -- What each part of `run` comes to.
 use Rattle.std.proofs.Common.{◌≡◌, ℕ, List, Option, Some, None, sym, subst}
-use Rattle.outer_io.specs.declared.writing.Sink.{Ghosts as SinkOf}
+use Rattle.outer_io.specs.declared.sink.Sink.{Ghosts as SinkOf}
 use Rattle.claim_core.specs.declared.report.Report.{Report}
 use Rattle.claim_core.specs.Turns.{CallerLists}
 use Rattle.claim_core.specs.Good.{Good}
@@ -22,8 +22,8 @@ use Rattle.commands.specs.Reads.{Read, whole}
 use Rattle.amoebot_run.specs.declared.begin.Begun.{Begun}
 use Rattle.amoebot_run.specs.declared.begin.Begun.TheVariants as begun
 use Rattle.amoebot_run.specs.declared.ended.Ended.{Ended}
-use Rattle.amoebot_run.specs.declared.making.Made.{Made}
-use Rattle.amoebot_run.specs.declared.making.MadeTurns.{MadeTurns}
+use Rattle.amoebot_run.specs.declared.turns.Made.{Made}
+use Rattle.amoebot_run.specs.declared.turns.MadeTurns.{MadeTurns}
 use Rattle.amoebot_run.specs.Clauses.{WroteAll, WroteFront}
 use Rattle.amoebot_run.specs.Endings.{IsEnding, wanting, IsReadWithinLimit}
 use Rattle.amoebot_run.specs.Parts.{IsEndOfWriting, IsBegun, has_ended, is_to_run, IsMade, IsEndedRun, told, untold, journal_turns, ticket_turns}

@@ -2,7 +2,7 @@
 use Rattle.std.proofs.Common.{◌≡◌, ◌∙◌, inl, inr, ℕ, List, Option, Some, None, refl, sym, subst}
 use Rattle.std.proofs.lemmas.Bool.{false≢true}
 use Rattle.claim_core.specs.declared.report.Report.{Report}
-use Rattle.outer_io.specs.declared.writing.Sink.{Ghosts as SinkOf}
+use Rattle.outer_io.specs.declared.sink.Sink.{Ghosts as SinkOf}
 use Rattle.claim_rule.specs.declared.manner.ByJournal.{ByJournal}
 use Rattle.claim_rule.specs.declared.manner.ByTicket.{ByTicket}
 use Rattle.node_claims.specs.declared.turn.Turn.{Turn}
@@ -17,8 +17,8 @@ use Rattle.commands.specs.Answers.{turn_maker}
 use Rattle.commands.specs.Commands.{IsTicketed, IsWorked, NeedsWorkers, maker_of, no_maker, the_workers, the_tickets}
 use Rattle.commands.proofs.TurnMakers.{nobody_works}
 use Rattle.amoebot_run.specs.declared.ended.Ended.{Ended}
-use Rattle.amoebot_run.specs.declared.making.MadeTurns.{MadeTurns}
-use Rattle.amoebot_run.specs.declared.making.MadeTurns.TheVariants as turned
+use Rattle.amoebot_run.specs.declared.turns.MadeTurns.{MadeTurns}
+use Rattle.amoebot_run.specs.declared.turns.MadeTurns.TheVariants as turned
 use Rattle.amoebot_run.specs.Parts.{HasTold, IsEndOfWriting, all, front, journal_turns, ticket_turns}
 use Rattle.amoebot_run.specs.Working.{HasTickets, HasTurns}
 

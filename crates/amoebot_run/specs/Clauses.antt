@@ -4,8 +4,8 @@ use Rattle.std.specs.declared.alloc.Global.{Global}
 use Rattle.std.specs.declared.option.Option.{Option}
 use Rattle.outer_io.specs.Told.{Rose}
 use Rattle.outer_io.specs.Writings.{WritesAll, WritesFront}
-use Rattle.outer_io.specs.declared.reading.Source.{Ghosts as SourceOf}
-use Rattle.outer_io.specs.declared.writing.Sink.{Ghosts as SinkOf}
+use Rattle.outer_io.specs.declared.source.Source.{Ghosts as SourceOf}
+use Rattle.outer_io.specs.declared.sink.Sink.{Ghosts as SinkOf}
 use Rattle.commands.specs.declared.words.Command.{Command}
 use Rattle.commands.specs.Words.{command_of}
 use Rattle.commands.specs.Commands.{limit_for}

@@ -2,7 +2,7 @@
 use Rattle.std.specs.Prelude.{◌≡◌, ℕ, List}
 use Rattle.std.specs.declared.option.Option.{Option}
 use Rattle.std.specs.declared.option.Option.TheVariants.{Some, None}
-use Rattle.outer_io.specs.declared.writing.Sink.{Ghosts as SinkOf}
+use Rattle.outer_io.specs.declared.sink.Sink.{Ghosts as SinkOf}
 use Rattle.amoebot_state.specs.Configs.{Config}
 use Rattle.claim_core.specs.declared.report.Report.{Report}
 use Rattle.claim_core.specs.Turns.{CallerLists, MarkLists}
@@ -11,7 +11,7 @@ use Rattle.claim_core.specs.Machine.{setup}
 use Rattle.claim_rule.specs.declared.manner.ByJournal.{ByJournal}
 use Rattle.claim_rule.specs.declared.manner.ByTicket.{ByTicket}
 use Rattle.node_claims.specs.declared.turn.Turn.{Turn}
-use Rattle.turn_desks.specs.Turns.{AreTurnsOf}
+use Rattle.caller_workers.specs.Turns.{AreTurnsOf}
 use Rattle.action_tree.specs.Trees.{Program}
 use Rattle.action_meaning.specs.Verdicts.{verdict_shown}
 use Rattle.commands.specs.declared.words.Command.{Command}
@@ -25,9 +25,9 @@ use Rattle.commands.specs.Reads.{Read}
 use Rattle.amoebot_run.specs.declared.ended.Ended.{Ended}
 use Rattle.amoebot_run.specs.declared.begin.Begun.{Begun}
 use Rattle.amoebot_run.specs.declared.begin.Begun.TheVariants as begun
-use Rattle.amoebot_run.specs.declared.making.Made.{Made}
-use Rattle.amoebot_run.specs.declared.making.MadeTurns.{MadeTurns}
-use Rattle.amoebot_run.specs.declared.making.MadeTurns.TheVariants as turned
+use Rattle.amoebot_run.specs.declared.turns.Made.{Made}
+use Rattle.amoebot_run.specs.declared.turns.MadeTurns.{MadeTurns}
+use Rattle.amoebot_run.specs.declared.turns.MadeTurns.TheVariants as turned
 use Rattle.amoebot_run.specs.Clauses.{WroteAll, WroteFront}
 use Rattle.amoebot_run.specs.Endings.{IsEnding, IsReadWithinLimit}
 use Rattle.amoebot_run.specs.Working.{HasTickets, HasTurns}

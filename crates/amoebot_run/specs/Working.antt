@@ -6,7 +6,7 @@ use Rattle.claim_core.specs.declared.report.Report.{Report}
 use Rattle.claim_rule.specs.declared.manner.ByJournal.{ByJournal}
 use Rattle.claim_rule.specs.declared.manner.ByTicket.{ByTicket}
 use Rattle.node_claims.specs.declared.turn.Turn.{Turn}
-use Rattle.turn_desks.specs.Turns.{AreTurnsOf}
+use Rattle.caller_workers.specs.Turns.{AreTurnsOf}
 use Rattle.commands.specs.declared.words.Command.{Command}
 use Rattle.commands.specs.Commands.{IsTicketed, IsWorked}
 use Rattle.commands.specs.declared.status.Status.{Status}

@@ -16,7 +16,7 @@ ghost use Rattle.amoebot_run.specs.Working.{HasTickets, HasTurns};
 use crate::begin::{Begun, begin};
 use crate::ended::{Ended, end_with};
 use crate::finish::finish;
-use crate::making::make_turns;
+use crate::turns::make_turns;
 use activation::{Gate, NoGate};
 use amoebot_state::NoMemory;
 use commands::{

@@ -7,7 +7,7 @@ ghost use Rattle.commands.specs.Answers.{IsCounted, Tells};
 ghost use Rattle.amoebot_run.specs.Parts.{IsEndedRun};
 
 use crate::ended::{Ended, end_with, end_with_answer};
-use crate::making::{Made, MadeTurns};
+use crate::turns::{Made, MadeTurns};
 use action_eval::Runner;
 use amoebot_state::NoMemory;
 use claim_core::Lists;

@@ -5,7 +5,7 @@ mod begin;
 mod calls;
 mod ended;
 mod finish;
-mod making;
+mod turns;
 
 pub use calls::{run, run_text};
 pub use commands::Status;

@@ -11,7 +11,7 @@ ghost use Rattle.tri_lattice.specs.declared.node.Node.{Node};
 
 use crate::bot::{Bot, Port};
 use crate::cell::{Cell, CellName, MOST_CELLS};
-use crate::reading::KnownZone;
+use crate::known_zone::KnownZone;
 use crate::way::{FewNodes, Way, Ways, push_nodes, ways_of};
 use crate::world::World;
 use arrayvec::ArrayVec;

@@ -4,13 +4,13 @@
 mod bot;
 mod cell;
 mod decider;
-mod fitting;
+mod fit;
 mod found;
 mod frame;
 mod grid;
 mod laws;
 mod next;
-mod reading;
+mod known_zone;
 mod refusal;
 mod verdict;
 mod way;
@@ -38,7 +38,7 @@ pub use laws::{
     zone_lists_each_cell_once,
 };
 pub use next::next_cell;
-pub use reading::KnownZone;
+pub use known_zone::KnownZone;
 pub use refusal::{NoMemory, WorldRefusal};
 pub use verdict::{Change, Entry, Failure, Moved, PlainEntry, Turned, Verdict};
 pub use world::World;

@@ -17,7 +17,7 @@ use crate::cell::{Cell, CellName, Patch};
 use crate::found::{Found, ZoneCells};
 use crate::frame::Frame;
 use crate::grid::{has_values, is_close, put_all, put_new};
-use crate::reading::KnownZone;
+use crate::known_zone::KnownZone;
 use crate::refusal::{NoMemory, WorldRefusal};
 use crate::way::{FewNodes, push_nodes};
 use crate::zone::{Ids, push_other};

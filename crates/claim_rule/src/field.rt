@@ -12,7 +12,7 @@ ghost use Rattle.claim_rule.specs.{Manners.{slot_count}, Views.{field_terms, set
 ghost use Rattle.claim_rule.specs.{Stands.{KeepsRule, first_view}, Opened.{AreSlotsAtFirst, first_words}};
 
 mod nodes;
-mod seating;
+mod deal;
 mod slots;
 mod steps;
 

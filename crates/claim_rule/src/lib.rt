@@ -6,9 +6,9 @@ mod activation;
 mod cells;
 mod claimed;
 mod close;
-mod drawing;
+mod draw;
 mod field;
-mod freeing;
+mod release;
 mod held;
 mod journal_box;
 mod laws;
@@ -29,9 +29,9 @@ mod views;
 mod words;
 
 pub use claimed::{Claimed, look, seal, unseal};
-pub use drawing::draw;
+pub use draw::draw;
 pub use field::Field;
-pub use freeing::{Freeing, end, free_last};
+pub use release::{Freeing, end, free_last};
 pub use held::{Held, begin, win};
 pub use journal_box::JournalBox;
 pub use laws::{

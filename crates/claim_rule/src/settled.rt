@@ -2,7 +2,7 @@ ghost use Rattle.std.specs.Prelude.{◌≡◌, ◌<◌, length};
 ghost use Rattle.claim_rule.specs.Tokens.{doing};
 
 use crate::activation::Activation;
-use crate::freeing::Freeing;
+use crate::release::Freeing;
 use crate::manner::{ByJournal, Manner};
 use amoebot_state::Decider;
 use std::marker::Model;

@@ -6,7 +6,7 @@ ghost use Rattle.claim_rule.specs.Tokens.{IsOf, number_in, doing, goes, refused_
 
 use crate::activation::Activation;
 use crate::field::Field;
-use crate::freeing::Freeing;
+use crate::release::Freeing;
 use crate::manner::{ByJournal, Manner};
 use crate::placed::Seen;
 use amoebot_state::{CellName, Decider};

@@ -1,6 +1,6 @@
 //! The commit of a change: it waits until the caller has the journal.
 #![tactic(auto)]
 
-mod waiting;
+mod commit;
 
-pub use waiting::{commit, try_commit};
+pub use commit::{commit, try_commit};

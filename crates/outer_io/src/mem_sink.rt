@@ -5,7 +5,7 @@ ghost use Rattle.outer_io.specs.MemWrites.{MemWrite, MemWritesAreOne, TornWrites
 
 use crate::errors::{Failed, NoMemory};
 use crate::plan::Plan;
-use crate::writing::Sink;
+use crate::sink::Sink;
 use std::alloc::Global;
 use std::marker::Model;
 

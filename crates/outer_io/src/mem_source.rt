@@ -6,7 +6,7 @@ ghost use Rattle.outer_io.specs.MemReads.{MemRead, MemGives, MemFails, MemReadsA
 
 use crate::errors::{Failed, NoMemory};
 use crate::plan::Plan;
-use crate::reading::Source;
+use crate::source::Source;
 use std::alloc::Global;
 use std::marker::Model;
 

@@ -3,7 +3,7 @@ ghost use Rattle.outer_io.specs.KeptBytes.{nothing_kept, kept_after, KeepsPiece,
 ghost use Rattle.outer_io.specs.KeptBytes.{PiecesAreKeptAsOne, TextIsKeptAsOnePiece};
 
 use crate::errors::{Failed, NoMemory};
-use crate::writing::Sink;
+use crate::sink::Sink;
 use std::alloc::Global;
 use std::marker::Model;
 

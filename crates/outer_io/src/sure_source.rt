@@ -2,7 +2,7 @@ ghost use Rattle.std.specs.Prelude.{◌≡◌, ◌++◌, length, take, min, IfOk
 ghost use Rattle.std.specs.declared.option.Option.TheVariants.{Some};
 
 use crate::errors::{Failed, NoMemory};
-use crate::reading::Source;
+use crate::source::Source;
 use std::alloc::Global;
 use std::marker::Model;
 

@@ -5,7 +5,7 @@
 mod laws;
 mod parts;
 mod printed_parts;
-mod printing;
+mod printed;
 mod shape;
 mod versions;
 
@@ -18,6 +18,6 @@ pub use parts::{
     read_word, read_word_within,
 };
 pub use printed_parts::{put_bot, put_node, put_port};
-pub use printing::{print_shape, put_shape};
+pub use printed::{print_shape, put_shape};
 pub use shape::{read_final, read_shape};
 pub use versions::{has_old_values, may_have_walls};

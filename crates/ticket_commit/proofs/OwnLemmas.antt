@@ -16,7 +16,7 @@ use Rattle.claim_rule.specs.Tokens.{FieldOf, Token}
 use Rattle.claim_rule.specs.Seating.{SeatsOf}
 use Rattle.claim_rule.specs.Opened.{first_records, first_seats, seat_with}
 use Rattle.claim_rule.proofs.Opens.{from}
-use Rattle.turn_desks.proofs.MadeTurns.{seats_count}
+use Rattle.caller_workers.proofs.MadeTurns.{seats_count}
 use Rattle.ticket_commit.specs.OwnLists.{OwnEntries}
 use Rattle.ticket_commit.specs.Own.{KeepsOwn, AreOwnLists}
 use Rattle.ticket_commit.specs.Laws.{OwnListIsOne, SmallOwn}

@@ -18,8 +18,8 @@ use Rattle.claim_rule.specs.Seating.{SeatsOf}
 use Rattle.claim_rule.specs.Closing.{ClosesAs}
 use Rattle.claim_rule.specs.Laws as laws
 use Rattle.node_claims.specs.declared.turn.Turn.{Turn}
-use Rattle.turn_desks.specs.Desks.{AreAllMade}
-use Rattle.turn_desks.proofs.MadeTurns.{of_all_made}
+use Rattle.caller_workers.specs.WorkerStates.{AreAllMade}
+use Rattle.caller_workers.proofs.MadeTurns.{of_all_made}
 
 -- what a report is that commits which draw their places give
 abbrev pub IsTicketReport : {D : Type 0} → (D → Shown → Verdict) → Terms D → Report → Type 0

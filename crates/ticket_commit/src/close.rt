@@ -6,7 +6,7 @@ ghost use Rattle.claim_rule.specs.Closing.{ClosesAs, HoldNothing, EndsRight};
 ghost use Rattle.ticket_commit.specs.Own.{own_at_seat};
 
 use crate::field::TicketField;
-use crate::merging::merge;
+use crate::merge::merge;
 use crate::seats::TicketSeats;
 use amoebot_state::{Decider, World};
 use claim_core::Journal;

@@ -2,21 +2,21 @@
 //! and the merge of what the callers committed.
 #![tactic(auto)]
 
-mod activating;
+mod activation;
 mod close;
-mod desks;
+mod seated;
 mod field;
 mod laws;
-mod merging;
+mod merge;
 mod own;
 mod seat;
 mod seats;
-mod turning;
-mod working;
+mod ticket_turns;
+mod work;
 
-pub use activating::{TicketTurn, activate_ticket};
+pub use activation::{TicketTurn, activate_ticket};
 pub use field::TicketField;
 pub use laws::{own_list_is_one, own_list_is_unpacked};
 pub use seat::TicketSeat;
 pub use seats::TicketSeats;
-pub use working::{TicketTurns, TicketWorked, work_tickets};
+pub use work::{TicketTurns, TicketWorked, work_tickets};

@@ -16,8 +16,8 @@ use Rattle.claim_rule.specs.Closing.{ClosesAs}
 use Rattle.claim_rule.specs.Laws as laws
 use Rattle.claim_rule.specs.declared.manner.ByJournal.{ByJournal}
 use Rattle.node_claims.specs.declared.turn.Turn.{Turn}
-use Rattle.turn_desks.specs.Desks.{AreAllMade}
-use Rattle.turn_desks.proofs.MadeTurns.{of_all_made}
+use Rattle.caller_workers.specs.WorkerStates.{AreAllMade}
+use Rattle.caller_workers.proofs.MadeTurns.{of_all_made}
 
 -- they are a report that some interleaving gives
 pub is_report : {D : Type 0} (verdict : D → Shown → Verdict) (f : FieldOf D) (seats : SeatsOf D) (marks : MarkLists) (turns : List (List (Turn ByJournal))) → AreAllMade f seats marks turns

@@ -3,5 +3,5 @@ pub use Rattle.claim_core.specs.Good
 pub use Rattle.claim_core.specs.Limits
 pub use Rattle.claim_core.specs.Reached
 pub use Rattle.claim_rule.specs.Views
-pub use Rattle.turn_desks.specs.Laws
-pub use Rattle.turn_desks.specs.Turns
+pub use Rattle.caller_workers.specs.Laws
+pub use Rattle.caller_workers.specs.Turns

@@ -1,11 +1,11 @@
 //! The turns of all callers, each caller's in a worker of its own, over one field.
 #![tactic(auto)]
 
-mod activations;
-mod desks;
-mod meeting;
-mod working;
+mod activation_turns;
+mod seated;
+mod meet_gate;
+mod work;
 
-pub use meeting::MeetGate;
-pub use turn_desks::turns_are_one;
-pub use working::{Turns, Worked, work};
+pub use meet_gate::MeetGate;
+pub use caller_workers::turns_are_one;
+pub use work::{Turns, Worked, work};

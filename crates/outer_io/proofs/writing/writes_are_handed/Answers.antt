@@ -1,5 +1,0 @@
-use Rattle.outer_io.proofs.SmallWritingsLemmas.{small_writings}
-use Rattle.outer_io.proofs.writing.writes_are_handed.Goals as goal
-
-pub returns : goal.returns
-returns c = small_writings

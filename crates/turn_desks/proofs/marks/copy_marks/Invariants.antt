@@ -1,7 +1,0 @@
-use Rattle.std.proofs.Common.{map}
-use Rattle.node_claims.specs.Answers.{mark_of}
-use Rattle.turn_desks.proofs.MarkCopies.{AreFilled}
-use Rattle.turn_desks.proofs.marks.copy_marks.Given as goal
-
-abbrev pub invariant-loop-own : goal.invariant-loop-own
-invariant-loop-own g l = AreFilled (λ answer. mark_of (g.T.Turning.told answer)) (map (λ v. v.items) l.turns) l.fn.marks l.marks l.own-index l.caller

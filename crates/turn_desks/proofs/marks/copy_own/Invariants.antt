@@ -1,7 +1,0 @@
-use Rattle.std.proofs.Common.{◌≡◌, map, take}
-use Rattle.node_claims.specs.Answers.{mark_of}
-use Rattle.turn_desks.specs.Desks.{with_marks}
-use Rattle.turn_desks.proofs.marks.copy_own.Given as goal
-
-abbrev pub invariant-loop-answer : goal.invariant-loop-answer
-invariant-loop-answer g l = l.marks ≡ with_marks l.fn.marks l.caller (map (λ answer. mark_of (g.T.Turning.told answer)) (take l.answer-index l.own))

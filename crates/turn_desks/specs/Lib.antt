@@ -1,6 +1,0 @@
-pub mod Turns
-pub mod Desks
-pub mod Laws
-pub use Rattle.claim_core.specs.Turns as ClaimCoreTurns
-pub use Rattle.claim_rule.specs.Tokens
-pub use Rattle.node_claims.specs.Answers

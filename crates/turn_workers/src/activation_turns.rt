@@ -1,0 +1,56 @@
+//! Turns that `activate` makes, as the workers ask for them.
+ghost use Rattle.std.specs.Prelude.{◌≡◌, length};
+ghost use Rattle.caller_workers.specs.WorkerStates.{HaveMade, IsNextTurn, IsTurnMade};
+
+use activation::{Gate, activate};
+use amoebot_state::Decider;
+use claim_core::{Lists, Mark};
+use claim_rule::{ByJournal, Field, Seat};
+use node_claims::Turn;
+use std::sync::Wait;
+use std::thread::Threads;
+use caller_workers::{WorkerState, TurnMaker, make_all};
+
+/// Turns on a field: a seat is its token, and an answer what became of the turn.
+#[derive(Drop)]
+pub struct ByActivation<'a, 'd, D: Decider> {
+    pub field: &'a Field<'d, D>,
+}
+
+impl<'a, 'd, D: Decider> TurnMaker<D, ByJournal> for ByActivation<'a, 'd, D> {
+    type Seat = Seat<D>;
+
+    type Answer = Turn;
+
+    ghost field = { λ by. by.field.now };
+
+    ghost token = { λ seat. seat };
+
+    ghost told = { λ turn. turn };
+
+    fn mark(&self, answer: &Turn) -> Mark {
+        answer.mark()
+    }
+}
+
+/// Makes the turns of all callers, each caller's in their order by a worker of its own.
+pub(crate) fn activate_all<R: Threads + Wait + Sync, D: Decider, G: Gate>(
+    rt: &R,
+    field: &Field<'_, D>,
+    lists: &Lists,
+    gate: &G,
+    states: &mut [WorkerState<Seat<D>, Turn>],
+)
+    requires few { length states.old ≡ length lists.now.ids }
+    requires lists { field.now.terms.lists ≡ lists.now }
+    requires before { HaveMade D.verdict (λ seat. seat) (λ turn. turn) field.now 0 states.old }
+    ensures count { length states.new ≡ length states.old }
+    ensures after { HaveMade D.verdict (λ seat. seat) (λ turn. turn) field.now lists.now.turns states.new }
+{
+    let by = ByActivation { field };
+    let make = |turn: u32, bot: u16, seat: Seat<D>|
+        requires { IsNextTurn D.verdict (λ seat. seat) field.now turn bot seat }
+        ensures { IsTurnMade D.verdict (λ seat. seat) (λ turn. turn) field.entry.now seat result }
+    { activate(rt, field, seat, gate, turn, bot) };
+    make_all(rt, &by, &make, lists, states);
+}
