@@ -8,9 +8,9 @@ mod fit;
 mod found;
 mod frame;
 mod grid;
+mod known_zone;
 mod laws;
 mod next;
-mod known_zone;
 mod refusal;
 mod verdict;
 mod way;
@@ -21,6 +21,7 @@ pub use bot::{ALL_PORTS, Bot, Chir, End, Port};
 pub use cell::{CELL_ROOM, Cell, CellName, MOST_CELLS, MOST_PAIRS, Patch, PlainPatch};
 pub use decider::{Decider, has_next, is_exact, old_values_are_found, touches_zone};
 pub use found::{Behind, Found};
+pub use known_zone::KnownZone;
 pub use laws::{
     beside_has_the_same_walls, beside_holds_the_same, contracted_has_six_ports, diff_leads,
     expanded_has_ten_ports, faultless_has_no_fault, faultless_is_valid, first_fault_is_unique,
@@ -38,7 +39,6 @@ pub use laws::{
     zone_lists_each_cell_once,
 };
 pub use next::next_cell;
-pub use known_zone::KnownZone;
 pub use refusal::{NoMemory, WorldRefusal};
 pub use verdict::{Change, Entry, Failure, Moved, PlainEntry, Turned, Verdict};
 pub use world::World;

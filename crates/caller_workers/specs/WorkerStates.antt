@@ -52,7 +52,7 @@ module _ {D S A : Type 0} (token : S → Token D) where
 
   -- the workers have these seats, and room for so many turns each
   pub record AreClear (turns : ℕ) (given : List (Option (Token D)))
-    (states : List (WorkerState S A)) : Type 0 where
+      (states : List (WorkerState S A)) : Type 0 where
     pub seats : map seat_at states ≡ given
     pub each : All (IsClear turns) states
 

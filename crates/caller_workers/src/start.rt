@@ -13,6 +13,14 @@ const LOOKS: u32 = 4_000;
 /// The most looks between two times, some tenths of a millisecond.
 const MOST_LOOKS: u32 = 524_288;
 
+/// So many turns of each list are made in the order of the lists, one after the other.
+/// What a run comes to may depend on who was first there, and so each run begins alike.
+const IN_ORDER: u64 = 12;
+
+/// How often a worker lets other threads go first before such a turn.
+/// After so many times, and for all turns that follow, there is no order.
+const TIMES_IN_ORDER: u32 = 20;
+
 /// A worker that has made some turns is ahead while the others together lack too many to have made
 /// as many each: more than one for each worker, and so many.
 const APART: u64 = 2;
@@ -36,6 +44,7 @@ pub(crate) struct Start {
     workers: u64,
     begun: AtomicU64,
     made: AtomicU64,
+    in_order: AtomicU64,
     apart: AtomicU64,
 }
 
@@ -47,6 +56,7 @@ impl Start {
             workers,
             begun: AtomicU64::new(0),
             made: AtomicU64::new(0),
+            in_order: AtomicU64::new(IN_ORDER),
             apart: AtomicU64::new(workers.wrapping_add(APART)),
         }
     }
@@ -68,6 +78,27 @@ impl Start {
             self.begun.store(self.workers, Ordering::SeqCst);
             self.apart.store(ANY, Ordering::SeqCst);
         }
+    }
+
+    /// Waits before the first turns of a caller until it is the next one, for a bounded time:
+    /// until all callers have made the turns before, and those below it this one too.
+    pub(crate) fn await_order(&self, caller: u8, turn: u32) {
+        let turn = u64::from(turn);
+        if turn >= self.in_order.load(Ordering::SeqCst) {
+            return;
+        }
+        let before = turn
+            .wrapping_mul(self.workers)
+            .wrapping_add(u64::from(caller));
+        let mut looks = LOOKS;
+        for _time in 0..TIMES_IN_ORDER {
+            if reaches(&self.made, before, looks) {
+                return;
+            }
+            thread::yield_now();
+            looks = longer(looks);
+        }
+        self.in_order.store(0, Ordering::SeqCst);
     }
 
     /// Notes that a worker has made its turn `turn` of `turns`, and waits while it is ahead,

@@ -87,6 +87,9 @@ fn make_turns<
     start.begin();
     let mut lack = 0;
     for turn in 0..lists.turns() {
+        if lists.callers() > 1 {
+            start.await_order(caller, turn);
+        }
         make_turn(rt, turning, make, lists, caller, turn, &mut own);
         if lists.callers() > 1 {
             lack = start.pace(turn, lists.turns(), lack);

@@ -6,10 +6,10 @@ ghost use Rattle.claim_rule.specs.Tokens.{found_in, verdict_in, placed_turn};
 
 use crate::activation::Activation;
 use crate::field::Field;
-use crate::release::Freeing;
 use crate::held::Held;
 use crate::manner::{ByJournal, Manner};
 use crate::placed::Seen;
+use crate::release::Freeing;
 use amoebot_state::{Decider, Found};
 use std::marker::Model;
 

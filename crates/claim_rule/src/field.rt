@@ -11,8 +11,8 @@ ghost use Rattle.claim_core.specs.{Cells.{number}, Soundness.{IsSetup}};
 ghost use Rattle.claim_rule.specs.{Manners.{slot_count}, Views.{field_terms, setup_of_terms}};
 ghost use Rattle.claim_rule.specs.{Stands.{KeepsRule, first_view}, Opened.{AreSlotsAtFirst, first_words}};
 
-mod nodes;
 mod deal;
+mod nodes;
 mod slots;
 mod steps;
 

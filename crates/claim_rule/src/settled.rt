@@ -2,8 +2,8 @@ ghost use Rattle.std.specs.Prelude.{◌≡◌, ◌<◌, length};
 ghost use Rattle.claim_rule.specs.Tokens.{doing};
 
 use crate::activation::Activation;
-use crate::release::Freeing;
 use crate::manner::{ByJournal, Manner};
+use crate::release::Freeing;
 use amoebot_state::Decider;
 use std::marker::Model;
 

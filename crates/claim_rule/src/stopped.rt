@@ -6,9 +6,9 @@ ghost use Rattle.claim_rule.specs.Tokens.{IsOf, number_in, doing, goes, refused_
 
 use crate::activation::Activation;
 use crate::field::Field;
-use crate::release::Freeing;
 use crate::manner::{ByJournal, Manner};
 use crate::placed::Seen;
+use crate::release::Freeing;
 use amoebot_state::{CellName, Decider};
 use claim_core::{tag_bot, tag_caller, tag_turn};
 use std::marker::Model;

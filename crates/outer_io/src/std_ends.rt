@@ -4,8 +4,8 @@ ghost use Rattle.std.specs.Io.KnownBytes.{ReadConsumes, WriteAppends, Appends, C
 ghost use Rattle.outer_io.specs.Counted.{count_after, raised_count};
 
 use crate::errors::Failed;
-use crate::source::Source;
 use crate::sink::Sink;
+use crate::source::Source;
 use std::io::{Read, Write};
 use std::marker::Model;
 

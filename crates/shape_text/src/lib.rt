@@ -4,8 +4,8 @@
 
 mod laws;
 mod parts;
-mod printed_parts;
 mod printed;
+mod printed_parts;
 mod shape;
 mod versions;
 
@@ -17,7 +17,7 @@ pub use parts::{
     Reading, read_bot, read_chirality, read_end, read_int, read_node, read_port, read_up_to,
     read_word, read_word_within,
 };
-pub use printed_parts::{put_bot, put_node, put_port};
 pub use printed::{print_shape, put_shape};
+pub use printed_parts::{put_bot, put_node, put_port};
 pub use shape::{read_final, read_shape};
 pub use versions::{has_old_values, may_have_walls};

@@ -4,12 +4,12 @@
 
 mod activation;
 mod close;
-mod seated;
 mod field;
 mod laws;
 mod merge;
 mod own;
 mod seat;
+mod seated;
 mod seats;
 mod ticket_turns;
 mod work;

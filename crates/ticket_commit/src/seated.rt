@@ -6,8 +6,8 @@ use crate::activation::TicketTurn;
 use crate::seat::TicketSeat;
 use crate::seats::TicketSeats;
 use amoebot_state::{Decider, NoMemory};
-use std::alloc::Global;
 use caller_workers::WorkerState;
+use std::alloc::Global;
 
 /// A worker's state for each caller, with the seats in the order of the callers
 /// and room for all turns.

@@ -7,11 +7,11 @@ use crate::field::TicketField;
 use crate::seat::TicketSeat;
 use activation::Gate;
 use amoebot_state::Decider;
+use caller_workers::{TurnMaker, WorkerState, make_all};
 use claim_core::{Lists, Mark};
 use claim_rule::ByTicket;
 use std::sync::Wait;
 use std::thread::Threads;
-use caller_workers::{WorkerState, TurnMaker, make_all};
 
 /// Turns on a field on which commits draw their places: a seat is its token,
 /// and an answer what became of the turn.

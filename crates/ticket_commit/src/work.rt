@@ -5,17 +5,17 @@ ghost use Rattle.claim_rule.specs.Views.{setup_for};
 ghost use Rattle.caller_workers.specs.Turns.{AreTurnsOf};
 
 use crate::activation::TicketTurn;
-use crate::seated::{clear, seat_all};
 use crate::field::TicketField;
+use crate::seated::{clear, seat_all};
 use crate::ticket_turns::{ByTickets, activate_all};
 use activation::Gate;
 use amoebot_state::{Decider, NoMemory, World, has_next, touches_zone};
+use caller_workers::{Turns, Worked, copy_marks, without_lists};
 use claim_core::{Lists, Marks, Report};
 use claim_rule::ended_tickets_are_reached;
 use std::alloc::Global;
 use std::sync::Wait;
 use std::thread::Threads;
-use caller_workers::{Turns, Worked, copy_marks, without_lists};
 
 /// What became of each turn of each caller, as `activate_ticket` answered that turn.
 pub type TicketTurns = Turns<TicketTurn>;

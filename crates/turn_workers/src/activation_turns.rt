@@ -4,12 +4,12 @@ ghost use Rattle.caller_workers.specs.WorkerStates.{HaveMade, IsNextTurn, IsTurn
 
 use activation::{Gate, activate};
 use amoebot_state::Decider;
+use caller_workers::{TurnMaker, WorkerState, make_all};
 use claim_core::{Lists, Mark};
 use claim_rule::{ByJournal, Field, Seat};
 use node_claims::Turn;
 use std::sync::Wait;
 use std::thread::Threads;
-use caller_workers::{WorkerState, TurnMaker, make_all};
 
 /// Turns on a field: a seat is its token, and an answer what became of the turn.
 #[derive(Drop)]

@@ -2,10 +2,10 @@
 #![tactic(auto)]
 
 mod activation_turns;
-mod seated;
 mod meet_gate;
+mod seated;
 mod work;
 
-pub use meet_gate::MeetGate;
 pub use caller_workers::turns_are_one;
+pub use meet_gate::MeetGate;
 pub use work::{Turns, Worked, work};

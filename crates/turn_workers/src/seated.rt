@@ -3,10 +3,10 @@ ghost use Rattle.std.specs.List.{All};
 ghost use Rattle.caller_workers.specs.{Turns.{lists_told}, WorkerStates.{AreClear, AreTaken, seat_at, turns_at}};
 
 use amoebot_state::{Decider, NoMemory};
+use caller_workers::WorkerState;
 use claim_rule::{Seat, Seats};
 use node_claims::Turn;
 use std::alloc::Global;
-use caller_workers::WorkerState;
 
 /// A worker's state for each caller, with the seats in the order of the callers
 /// and room for all turns.

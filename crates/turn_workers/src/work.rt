@@ -8,13 +8,13 @@ use crate::activation_turns::{ByActivation, activate_all};
 use crate::seated::{clear, seat_all};
 use activation::Gate;
 use amoebot_state::{Decider, NoMemory, World, has_next, touches_zone};
+use caller_workers::{copy_marks, without_lists};
 use claim_core::{Lists, Marks, Report};
 use claim_rule::{Field, ended_field_is_reached};
 use node_claims::Turn;
 use std::alloc::Global;
 use std::sync::Wait;
 use std::thread::Threads;
-use caller_workers::{copy_marks, without_lists};
 
 /// What became of each turn of each caller, as the activation of that turn answered it.
 pub type Turns = caller_workers::Turns<Turn>;
