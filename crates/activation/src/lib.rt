@@ -1,9 +1,9 @@
 //! One activation of a caller, from its seat and back to it.
 #![tactic(auto)]
 
-mod activation;
 mod gate;
+mod turn;
 
-pub use activation::activate;
 pub use gate::{Gate, NoGate};
 pub use node_claims::{Turn, answer_is_unique};
+pub use turn::activate;

@@ -2,7 +2,6 @@
 //! and the merge of what the callers committed.
 #![tactic(auto)]
 
-mod activation;
 mod close;
 mod field;
 mod laws;
@@ -11,12 +10,13 @@ mod own;
 mod seat;
 mod seated;
 mod seats;
+mod ticket_turn;
 mod ticket_turns;
 mod work;
 
-pub use activation::{TicketTurn, activate_ticket};
 pub use field::TicketField;
 pub use laws::{own_list_is_one, own_list_is_unpacked};
 pub use seat::TicketSeat;
 pub use seats::TicketSeats;
+pub use ticket_turn::{TicketTurn, activate_ticket};
 pub use work::{TicketTurns, TicketWorked, work_tickets};

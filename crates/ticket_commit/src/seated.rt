@@ -2,9 +2,9 @@ ghost use Rattle.std.specs.Prelude.{◌≡◌, ◌≤◌, length, map, [], None,
 ghost use Rattle.std.specs.List.{All};
 ghost use Rattle.caller_workers.specs.{Turns.{lists_told}, WorkerStates.{AreClear, AreTaken, seat_at, turns_at}};
 
-use crate::activation::TicketTurn;
 use crate::seat::TicketSeat;
 use crate::seats::TicketSeats;
+use crate::ticket_turn::TicketTurn;
 use amoebot_state::{Decider, NoMemory};
 use caller_workers::WorkerState;
 use std::alloc::Global;

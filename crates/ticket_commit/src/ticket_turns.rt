@@ -2,9 +2,9 @@
 ghost use Rattle.std.specs.Prelude.{◌≡◌, length};
 ghost use Rattle.caller_workers.specs.WorkerStates.{HaveMade, IsNextTurn, IsTurnMade};
 
-use crate::activation::{TicketTurn, activate_ticket};
 use crate::field::TicketField;
 use crate::seat::TicketSeat;
+use crate::ticket_turn::{TicketTurn, activate_ticket};
 use activation::Gate;
 use amoebot_state::Decider;
 use caller_workers::{TurnMaker, WorkerState, make_all};

@@ -4,9 +4,9 @@ ghost use Rattle.claim_core.specs.{Good.{Good}, Reached.{Reached}, Tickets.{Tick
 ghost use Rattle.claim_rule.specs.Views.{setup_for};
 ghost use Rattle.caller_workers.specs.Turns.{AreTurnsOf};
 
-use crate::activation::TicketTurn;
 use crate::field::TicketField;
 use crate::seated::{clear, seat_all};
+use crate::ticket_turn::TicketTurn;
 use crate::ticket_turns::{ByTickets, activate_all};
 use activation::Gate;
 use amoebot_state::{Decider, NoMemory, World, has_next, touches_zone};

@@ -2,7 +2,7 @@ use Rattle.std.proofs.Common.{sym, ◌∙◌}
 use Rattle.amoebot_state.specs.declared.verdict.Verdict.TheVariants as decision
 use Rattle.claim_core.specs.declared.state.Look.TheVariants as look
 use Rattle.activation.proofs.DecisionLemmas.{phase_is}
-use Rattle.activation.proofs.activation.activate.Goals as goal
+use Rattle.activation.proofs.turn.activate.Goals as goal
 
 pub place-seen-requires-in-Failed-clause-looks : goal.place-seen-requires-in-Failed-clause-looks
 place-seen-requires-in-Failed-clause-looks g c κs within =

@@ -3,7 +3,7 @@ use Rattle.amoebot_state.specs.declared.verdict.Verdict.TheVariants as decision
 use Rattle.claim_core.specs.declared.state.Look.TheVariants as look
 use Rattle.claim_rule.specs.Tokens.{FieldOf, Token, IsOf}
 use Rattle.activation.proofs.DecisionLemmas.{phase_is}
-use Rattle.ticket_commit.proofs.activation.activate_ticket.Goals as goal
+use Rattle.ticket_commit.proofs.ticket_turn.activate_ticket.Goals as goal
 
 -- src/activating.rt
 pub place-seen-requires-in-Failed-clause-looks : goal.place-seen-requires-in-Failed-clause-looks
