@@ -6,7 +6,7 @@ mod activation;
 mod cells;
 mod claimed;
 mod close;
-mod draw;
+mod draws;
 mod field;
 mod held;
 mod journal_box;
@@ -29,7 +29,7 @@ mod views;
 mod words;
 
 pub use claimed::{Claimed, look, seal, unseal};
-pub use draw::draw;
+pub use draws::draw;
 pub use field::Field;
 pub use held::{Held, begin, win};
 pub use journal_box::JournalBox;

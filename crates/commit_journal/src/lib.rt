@@ -1,6 +1,6 @@
 //! The commit of a change: it waits until the caller has the journal.
 #![tactic(auto)]
 
-mod commit;
+mod commits;
 
-pub use commit::{commit, try_commit};
+pub use commits::{commit, try_commit};

@@ -2,6 +2,7 @@
 //! and the merge of what the callers committed.
 #![tactic(auto)]
 
+mod all_turns;
 mod close;
 mod field;
 mod laws;
@@ -12,11 +13,10 @@ mod seated;
 mod seats;
 mod ticket_turn;
 mod ticket_turns;
-mod work;
 
+pub use all_turns::{TicketTurns, TicketWorked, work_tickets};
 pub use field::TicketField;
 pub use laws::{own_list_is_one, own_list_is_unpacked};
 pub use seat::TicketSeat;
 pub use seats::TicketSeats;
 pub use ticket_turn::{TicketTurn, activate_ticket};
-pub use work::{TicketTurns, TicketWorked, work_tickets};

@@ -2,10 +2,10 @@
 #![tactic(auto)]
 
 mod activation_turns;
+mod all_turns;
 mod meet_gate;
 mod seated;
-mod work;
 
+pub use all_turns::{Turns, Worked, work};
 pub use caller_workers::turns_are_one;
 pub use meet_gate::MeetGate;
-pub use work::{Turns, Worked, work};

@@ -16,9 +16,9 @@ use Rattle.caller_workers.specs.Turns.{AreTurnsOf, lists_told, marks_in}
 use Rattle.caller_workers.specs.WorkerStates.{AreClear, AreTaken, AreAllMade, HaveMade, seat_at, turns_at}
 use Rattle.caller_workers.proofs.MadeTurns.{first_have, are_taken, all_turns, are_made, told_is, written, as_many}
 use Rattle.ticket_commit.proofs.TicketReports.{is_ticket_report}
-use Rattle.ticket_commit.proofs.work.work_tickets.Given.{Over}
-use Rattle.ticket_commit.proofs.work.work_tickets.Goals.{After-activate_all, After-copy_marks, After-of}
-use Rattle.ticket_commit.proofs.work.work_tickets.Goals as goal
+use Rattle.ticket_commit.proofs.all_turns.work_tickets.Given.{Over}
+use Rattle.ticket_commit.proofs.all_turns.work_tickets.Goals.{After-activate_all, After-copy_marks, After-of}
+use Rattle.ticket_commit.proofs.all_turns.work_tickets.Goals as goal
 
 -- src/working.rt
 

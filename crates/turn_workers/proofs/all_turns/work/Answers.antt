@@ -15,9 +15,9 @@ use Rattle.caller_workers.specs.Turns.{AreTurnsOf, lists_told, marks_in}
 use Rattle.caller_workers.specs.WorkerStates.{AreClear, AreTaken, AreAllMade, HaveMade, seat_at, turns_at}
 use Rattle.caller_workers.proofs.MadeTurns.{first_have, are_taken, all_turns, are_made, told_is, written, as_many}
 use Rattle.turn_workers.proofs.WorkEnds.{is_report}
-use Rattle.turn_workers.proofs.work.work.Given.{Over}
-use Rattle.turn_workers.proofs.work.work.Goals.{After-activate_all, After-copy_marks, After-of}
-use Rattle.turn_workers.proofs.work.work.Goals as goal
+use Rattle.turn_workers.proofs.all_turns.work.Given.{Over}
+use Rattle.turn_workers.proofs.all_turns.work.Goals.{After-activate_all, After-copy_marks, After-of}
+use Rattle.turn_workers.proofs.all_turns.work.Goals as goal
 
 -- src/working.rt
 

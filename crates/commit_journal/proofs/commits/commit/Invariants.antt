@@ -1,5 +1,5 @@
 use Rattle.std.proofs.Common.{◌≡◌}
-use Rattle.commit_journal.proofs.commit.commit.Given as goal
+use Rattle.commit_journal.proofs.commits.commit.Given as goal
 
 -- the claim and the change are as they were
 abbrev pub invariant-loop : goal.invariant-loop
