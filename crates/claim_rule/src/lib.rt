@@ -6,7 +6,7 @@ mod activation;
 mod cells;
 mod claimed;
 mod close;
-mod draws;
+mod drawn;
 mod field;
 mod held;
 mod journal_box;
@@ -29,7 +29,7 @@ mod views;
 mod words;
 
 pub use claimed::{Claimed, look, seal, unseal};
-pub use draws::draw;
+pub use drawn::draw;
 pub use field::Field;
 pub use held::{Held, begin, win};
 pub use journal_box::JournalBox;

@@ -6,7 +6,7 @@ use Rattle.claim_rule.specs.declared.activation.Room.{Room}
 use Rattle.claim_rule.specs.Manners.{by_ticket}
 use Rattle.claim_rule.specs.Tokens.{Token, IsActivation, IsFreeing, frame_of, doing}
 use Rattle.claim_rule.proofs.SettlingLemmas.{drawn_is}
-use Rattle.claim_rule.proofs.draws.draw.Goals as goal
+use Rattle.claim_rule.proofs.drawn.draw.Goals as goal
 
 pub invariant_of-result : goal.invariant_of-result
 invariant_of-result g c =
