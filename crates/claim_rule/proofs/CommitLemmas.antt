@@ -136,7 +136,7 @@ module _ {D : Type 0} {verdict : D → Shown → Verdict} {z : Terms D} {way : C
   pub own_found : HoldsZone r.caller.phase → IsShownAt g committed_state.journal (commit_at g r change place)
   own_found holds = (
     (sound table).last,
-    subst (λ n. Rattle.claim_core.specs.Good.IsWorldAt g.verdict g.world committed_state.journal n (sound table).last) (sym place_is)
+    subst (λ n. Rattle.amoebot_state.specs.Steps.IsWorldAt g.verdict g.world committed_state.journal n (sound table).last) (sym place_is)
         (IsWorldAt-append g.verdict g.world (sound table).last core.journal (e ∷ []) (length core.journal) (world_last g.verdict g.world (sound table).last core.journal (sound table).run)),
     shows g table.run core (sound table) r.number r.caller (caller_at table) holds,
   )

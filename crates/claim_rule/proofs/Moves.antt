@@ -45,7 +45,7 @@ at_there xs ts (Some k) t e f = (_, slice_get-get_or xs k (cell.Spot None) (let 
 pub committed_stays : (g : Setup) (old new : State) (c : ℕ) (ps : List Committed) (j : Option Kept) → new.journal ≡ old.journal → new.holder ≡ old.holder → turns_left g new ≤ turns_left g old → HasCommitted g old c ps j → HasCommitted g new c ps j
 committed_stays g old new c ps j journal holder fewer is = record {
   entries = is.entries ∙ ap (Rattle.claim_core.specs.Reached.entries_of c 0) (sym journal);
-  found = All-weaker (IsShownAt g old.journal) (IsShownAt g new.journal) (λ p f. (f.0, subst (λ es. Rattle.claim_core.specs.Good.IsWorldAt g.verdict g.world es p.place f.0) (sym journal) f.1, f.2)) ps is.found;
+  found = All-weaker (IsShownAt g old.journal) (IsShownAt g new.journal) (λ p f. (f.0, subst (λ es. Rattle.amoebot_state.specs.Steps.IsWorldAt g.verdict g.world es p.place f.0) (sym journal) f.1, f.2)) ps is.found;
   taken = by j is.taken;
 }
   where
