@@ -28,7 +28,7 @@ fn put<'p>(
     port: Option<Port>,
     name: &'p Word,
     sum: &'p Sum,
-    site: &mut Site,
+    site: &mut Site<'_>,
     names: &Names<'p>,
 ) -> Result<(), Failure>
     requires var { IsVariable (scope_of (known names.now)) (view.name_of name.now) }
@@ -47,7 +47,7 @@ fn put<'p>(
 
 /// A statement. The names in force behind it are given back.
 #[cycle(effects)]
-fn run_stmt<'p>(stmt: &'p Stmt, site: &mut Site, names: Names<'p>) -> Result<Names<'p>, Failure>
+fn run_stmt<'p>(stmt: &'p Stmt, site: &mut Site<'_>, names: Names<'p>) -> Result<Names<'p>, Failure>
     requires kept { StmtKept (scope_of (known names)) (view.stmt_of stmt.now) }
     requires placed { stmt_placed stmt.now (scope_of (known names)) ≡ true }
     requires counted { is_stmt (view.stmt_of stmt.now) ≡ true }
@@ -88,7 +88,7 @@ fn run_stmt<'p>(stmt: &'p Stmt, site: &mut Site, names: Names<'p>) -> Result<Nam
 #[cycle(effects)]
 fn run_stmts<'p>(
     stmts: &'p [Stmt],
-    site: &mut Site,
+    site: &mut Site<'_>,
     mut names: Names<'p>,
 ) -> Result<Names<'p>, Failure>
     requires kept { StmtsKept (scope_of (known names)) (view.stmts_of stmts.now) }
@@ -111,7 +111,7 @@ fn run_for<'p>(
     set: PortSet,
     stmts: &'p [Stmt],
     guard: &'p Guard,
-    site: &mut Site,
+    site: &mut Site<'_>,
     names: &Names<'p>,
 ) -> Result<(), Failure>
     requires asked { MayAsk (known names.now) name.now guard.now }
@@ -136,7 +136,7 @@ fn run_turn<'p>(
     port: Port,
     stmts: &'p [Stmt],
     guard: &'p Guard,
-    site: &mut Site,
+    site: &mut Site<'_>,
     names: &Names<'p>,
 ) -> Result<(), Failure>
     requires asked { MayAsk (known names.now) name.now guard.now }
@@ -155,7 +155,7 @@ fn run_turn<'p>(
 }
 
 /// The movement that an action names, with its port as evaluated.
-fn move_value<'p>(moved: &'p Move, site: &Site, names: &Names<'p>) -> Result<Moved, Failure>
+fn move_value<'p>(moved: &'p Move, site: &Site<'_>, names: &Names<'p>) -> Result<Moved, Failure>
     requires kept { MoveKept (scope_of (known names.now)) (view.move_of moved.now) }
     requires placed { move_placed moved.now (scope_of (known names.now)) ≡ true }
     requires counted { is_move (view.move_of moved.now) ≡ true }
@@ -180,7 +180,7 @@ fn move_value<'p>(moved: &'p Move, site: &Site, names: &Names<'p>) -> Result<Mov
 }
 
 /// Makes a movement. With the guard on, it leaves no node that is not surrounded by one arc.
-fn make_move(moved: Moved, guard: bool, site: &mut Site) -> Result<(), Failure>
+fn make_move(moved: Moved, guard: bool, site: &mut Site<'_>) -> Result<(), Failure>
     ensures value { result ≡ done (move site.old.reached (own_id site.old) guard moved) }
     ensures after { site.new ≡ copy_after site.old (move site.old.reached (own_id site.old) guard moved) }
 {
@@ -198,7 +198,7 @@ fn make_move(moved: Moved, guard: bool, site: &mut Site) -> Result<(), Failure>
 pub fn run_action<'p>(
     action: &'p Action,
     guard: bool,
-    site: &mut Site,
+    site: &mut Site<'_>,
     names: Names<'p>,
 ) -> Result<Moved, Failure>
     requires body { StmtsKept (scope_of (known names)) (view.stmts_of action.now.body.items) }

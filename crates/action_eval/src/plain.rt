@@ -23,7 +23,7 @@ pub fn plain_comparison(
     left: &Sum,
     cmp: Cmp,
     right: &Sum,
-    site: &Site,
+    site: &Site<'_>,
     names: &Names<'_>,
 ) -> Option<bool>
     requires left_kept { SumKept (scope_of (known names.now)) (view.sum_of left.now) }
@@ -40,7 +40,7 @@ pub fn plain_comparison(
 
 /// The value of a sum of one plain term without a minus. None, where it is another sum or fails.
 #[inline(always)]
-fn plain_sum(sum: &Sum, site: &Site, names: &Names<'_>) -> Option<i32>
+fn plain_sum(sum: &Sum, site: &Site<'_>, names: &Names<'_>) -> Option<i32>
     requires kept { SumKept (scope_of (known names.now)) (view.sum_of sum.now) }
     requires placed { sum_placed sum.now (scope_of (known names.now)) ≡ true }
     ensures { IfSome result (λ x.
@@ -55,7 +55,7 @@ fn plain_sum(sum: &Sum, site: &Site, names: &Names<'_>) -> Option<i32>
 
 /// The value of a number or of a variable. None, where it is another term or fails.
 #[inline(always)]
-fn plain_term(term: &Term, site: &Site, names: &Names<'_>) -> Option<i32>
+fn plain_term(term: &Term, site: &Site<'_>, names: &Names<'_>) -> Option<i32>
     requires kept { TermKept (scope_of (known names.now)) (view.term_of term.now) }
     requires placed { term_placed term.now (scope_of (known names.now)) ≡ true }
     ensures { IfSome result (λ x.

@@ -12,7 +12,7 @@ use model_ops::Site;
 
 /// The ports of a set, in port order: the connected ones,
 /// or those whose node behind can be entered.
-pub fn ports_of(set: PortSet, site: &Site) -> ArrayVec<Port, 12>
+pub fn ports_of(set: PortSet, site: &Site<'_>) -> ArrayVec<Port, 12>
     ensures { result.items ≡ spec.ports_of (sight_of site.now) set }
 {
     let mut ports = ArrayVec::new();
@@ -26,7 +26,7 @@ pub fn ports_of(set: PortSet, site: &Site) -> ArrayVec<Port, 12>
 
 /// The pairs that may be ports, in port order: of a contracted amoebot those of its head alone.
 #[inline(always)]
-pub fn pairs(site: &Site) -> &'static [Port]
+pub fn pairs(site: &Site<'_>) -> &'static [Port]
     ensures whole { (set : PortSet)
         → spec.ports_of (sight_of site.now) set ≡ filter (is_in_set (sight_of site.now) set) result.now }
     ensures few { length result.now ≤ 12 }
@@ -40,7 +40,7 @@ pub fn pairs(site: &Site) -> &'static [Port]
 
 /// Whether a pair is a port of the set.
 #[inline(always)]
-pub fn is_one_of(set: PortSet, site: &Site, port: Port) -> bool
+pub fn is_one_of(set: PortSet, site: &Site<'_>, port: Port) -> bool
     ensures { result ≡ is_in_set (sight_of site.now) set port }
 {
     let is_one = match set {
@@ -54,7 +54,7 @@ pub fn is_one_of(set: PortSet, site: &Site, port: Port) -> bool
 }
 
 /// Whether a pair is a port of the amoebot.
-pub fn is_own_port(port: Port, site: &Site) -> bool
+pub fn is_own_port(port: Port, site: &Site<'_>) -> bool
     ensures { result ≡ is_port (sight_of site.now).own port }
 {
     site.own().is_port(port)

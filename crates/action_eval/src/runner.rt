@@ -64,6 +64,8 @@ impl Decider for Runner {
     fn decide(&self, found: &Found) -> Verdict {
         let program = self.checked.program();
         let names = Names::new(program.vars());
+        // Its clause says that some valid world shows what was found.
+        let _ = found.own();
         // Borrowed where it was made: a working copy with a name
         // of its own would be moved once more.
         let site = &mut Site::new(found);
@@ -83,7 +85,7 @@ impl Decider for Runner {
 fn actions_decide<'p>(
     actions: &'p [Action],
     guard: bool,
-    site: &mut Site,
+    site: &mut Site<'_>,
     names: Names<'p>,
 ) -> Result<Option<(u8, Moved)>, Failure>
     requires shown { IsShown site.old.found }
@@ -109,7 +111,7 @@ fn action_decides<'p>(
     number: u8,
     action: &'p Action,
     guard: bool,
-    site: &mut Site,
+    site: &mut Site<'_>,
     names: Names<'p>,
 ) -> Result<Option<(u8, Moved)>, Failure>
     requires shown { IsShown site.old.found }
@@ -127,7 +129,7 @@ fn action_decides<'p>(
 /// The verdict that an action was made, which leaves what the working copy has come to.
 /// It stays a function of its own, since most turns make none.
 #[inline(never)]
-fn change_made(action: u8, moved: Moved, site: &Site) -> Verdict
+fn change_made(action: u8, moved: Moved, site: &Site<'_>) -> Verdict
     requires { Reaches (shown_alone site.now.found) (own_id site.now) site.now.reached }
     ensures { result ≡ verdict.Change (record { action = action; moved = moved; patch = changes site.now }) }
 {

@@ -37,7 +37,11 @@ enum Test {
 /// The value of a guard.
 #[tactic(auto, using(crate::proofs::Evaluated::value_steps))]
 #[cycle(values)]
-pub fn guard_value<'p>(guard: &'p Guard, site: &Site, names: &Names<'p>) -> Result<bool, Failure>
+pub fn guard_value<'p>(
+    guard: &'p Guard,
+    site: &Site<'_>,
+    names: &Names<'p>,
+) -> Result<bool, Failure>
     requires kept { GuardKept (scope_of (known names.now)) (view.guard_of guard.now) }
     requires placed { guard_placed guard.now (scope_of (known names.now)) ≡ true }
     requires counted { is_guard (view.guard_of guard.now) ≡ true }
@@ -74,7 +78,11 @@ pub fn guard_value<'p>(guard: &'p Guard, site: &Site, names: &Names<'p>) -> Resu
 /// comparisons of plain sums are looked up at once.
 #[inline(always)]
 #[cycle(values)]
-pub fn quick_value<'p>(guard: &'p Guard, site: &Site, names: &Names<'p>) -> Result<bool, Failure>
+pub fn quick_value<'p>(
+    guard: &'p Guard,
+    site: &Site<'_>,
+    names: &Names<'p>,
+) -> Result<bool, Failure>
     requires kept { GuardKept (scope_of (known names.now)) (view.guard_of guard.now) }
     requires placed { guard_placed guard.now (scope_of (known names.now)) ≡ true }
     requires counted { is_guard (view.guard_of guard.now) ≡ true }
@@ -100,7 +108,7 @@ pub fn quick_value<'p>(guard: &'p Guard, site: &Site, names: &Names<'p>) -> Resu
 fn test_value<'p>(
     test: Test,
     port: &'p PortExpr,
-    site: &Site,
+    site: &Site<'_>,
     names: &Names<'p>,
 ) -> Result<bool, Failure>
     requires kept { PortKept (scope_of (known names.now)) (view.port_of port.now) }
@@ -133,7 +141,7 @@ fn test_value<'p>(
 
 /// `and` stops at the first false element.
 #[cycle(values)]
-fn each_value<'p>(guards: &'p [Guard], site: &Site, names: &Names<'p>) -> Result<bool, Failure>
+fn each_value<'p>(guards: &'p [Guard], site: &Site<'_>, names: &Names<'p>) -> Result<bool, Failure>
     requires kept { GuardsKept (scope_of (known names.now)) (view.guards_of guards.now) }
     requires placed { guards_placed guards.now (scope_of (known names.now)) ≡ true }
     requires counted { are_guards (view.guards_of guards.now) ≡ true }
@@ -151,7 +159,7 @@ fn each_value<'p>(guards: &'p [Guard], site: &Site, names: &Names<'p>) -> Result
 
 /// `or` stops at the first true element.
 #[cycle(values)]
-fn some_value<'p>(guards: &'p [Guard], site: &Site, names: &Names<'p>) -> Result<bool, Failure>
+fn some_value<'p>(guards: &'p [Guard], site: &Site<'_>, names: &Names<'p>) -> Result<bool, Failure>
     requires kept { GuardsKept (scope_of (known names.now)) (view.guards_of guards.now) }
     requires placed { guards_placed guards.now (scope_of (known names.now)) ≡ true }
     requires counted { are_guards (view.guards_of guards.now) ≡ true }
@@ -174,7 +182,7 @@ fn any_value<'p>(
     name: &'p Word,
     set: PortSet,
     guard: &'p Guard,
-    site: &Site,
+    site: &Site<'_>,
     names: &Names<'p>,
 ) -> Result<bool, Failure>
     requires { MayAsk (known names.now) name.now guard.now }
@@ -203,7 +211,7 @@ fn all_value<'p>(
     name: &'p Word,
     set: PortSet,
     guard: &'p Guard,
-    site: &Site,
+    site: &Site<'_>,
     names: &Names<'p>,
 ) -> Result<bool, Failure>
     requires { MayAsk (known names.now) name.now guard.now }
@@ -232,7 +240,7 @@ fn first_value<'p>(
     name: &'p Word,
     set: PortSet,
     guard: &'p Guard,
-    site: &Site,
+    site: &Site<'_>,
     names: &Names<'p>,
 ) -> Result<Port, Failure>
     requires { MayAsk (known names.now) name.now guard.now }
@@ -261,7 +269,7 @@ fn count_value<'p>(
     name: &'p Word,
     set: PortSet,
     guard: &'p Guard,
-    site: &Site,
+    site: &Site<'_>,
     names: &Names<'p>,
 ) -> Result<u8, Failure>
     requires { MayAsk (known names.now) name.now guard.now }
@@ -292,7 +300,7 @@ fn count_value<'p>(
 /// It has at most 64 terms, each of at most 65,535 in size, so it stays far within 32 bits.
 #[tactic(auto, using(crate::proofs::Evaluated::value_steps))]
 #[cycle(values)]
-pub fn sum_value<'p>(sum: &'p Sum, site: &Site, names: &Names<'p>) -> Result<i32, Failure>
+pub fn sum_value<'p>(sum: &'p Sum, site: &Site<'_>, names: &Names<'p>) -> Result<i32, Failure>
     requires kept { SumKept (scope_of (known names.now)) (view.sum_of sum.now) }
     requires placed { sum_placed sum.now (scope_of (known names.now)) ≡ true }
     requires counted { is_sum (view.sum_of sum.now) ≡ true }
@@ -309,7 +317,7 @@ pub fn sum_value<'p>(sum: &'p Sum, site: &Site, names: &Names<'p>) -> Result<i32
 /// The value of a term without its sign.
 #[tactic(auto, using(crate::proofs::Evaluated::value_steps))]
 #[cycle(values)]
-fn term_value<'p>(term: &'p Term, site: &Site, names: &Names<'p>) -> Result<i32, Failure>
+fn term_value<'p>(term: &'p Term, site: &Site<'_>, names: &Names<'p>) -> Result<i32, Failure>
     requires kept { TermKept (scope_of (known names.now)) (view.term_of term.now) }
     requires placed { term_placed term.now (scope_of (known names.now)) ≡ true }
     requires counted { is_term (view.term_of term.now) ≡ true }
@@ -358,7 +366,7 @@ fn term_value<'p>(term: &'p Term, site: &Site, names: &Names<'p>) -> Result<i32,
 /// The pair that a port expression names. Most are names, or turned from one.
 #[inline(always)]
 #[cycle(values)]
-fn quick_port<'p>(port: &'p PortExpr, site: &Site, names: &Names<'p>) -> Result<Port, Failure>
+fn quick_port<'p>(port: &'p PortExpr, site: &Site<'_>, names: &Names<'p>) -> Result<Port, Failure>
     requires kept { PortKept (scope_of (known names.now)) (view.port_of port.now) }
     requires placed { port_placed port.now (scope_of (known names.now)) ≡ true }
     requires counted { is_port_expr (view.port_of port.now) ≡ true }
@@ -373,7 +381,11 @@ fn quick_port<'p>(port: &'p PortExpr, site: &Site, names: &Names<'p>) -> Result<
 /// The pair that a port expression names.
 #[tactic(auto, using(crate::proofs::Evaluated::value_steps))]
 #[cycle(values)]
-pub fn port_value<'p>(port: &'p PortExpr, site: &Site, names: &Names<'p>) -> Result<Port, Failure>
+pub fn port_value<'p>(
+    port: &'p PortExpr,
+    site: &Site<'_>,
+    names: &Names<'p>,
+) -> Result<Port, Failure>
     requires kept { PortKept (scope_of (known names.now)) (view.port_of port.now) }
     requires placed { port_placed port.now (scope_of (known names.now)) ≡ true }
     requires counted { is_port_expr (view.port_of port.now) ≡ true }
@@ -397,7 +409,7 @@ pub fn port_value<'p>(port: &'p PortExpr, site: &Site, names: &Names<'p>) -> Res
 }
 
 /// A local direction. NoPort, the value of the variable is none.
-fn direction_value(direction: &DirTerm, site: &Site, names: &Names<'_>) -> Result<u8, Failure>
+fn direction_value(direction: &DirTerm, site: &Site<'_>, names: &Names<'_>) -> Result<u8, Failure>
     requires kept { DirTermKept (scope_of (known names.now)) (view.dirterm_of direction.now) }
     requires placed { dirterm_placed direction.now (scope_of (known names.now)) ≡ true }
     ensures { result ≡ spec.dirterm_value (sight_of site.now)

@@ -1,24 +1,20 @@
 -- What is behind a pair answers what is asked of it, and writes do not change it.
-use Rattle.std.proofs.Common.{◌≡◌, ◌<◌, ◌≤◌, ℕ, zero, suc, List, [], ◌∷◌, map, Bool, true, false, ap, sym, ◌∙◌, refl, inl, inr, Option, Some, None, Ok, Err, Result, get_or, set, cond}
-use Rattle.std.specs.Prelude.{IfOk, IsSome, slice_get, unwrap_or, is_none, is_some, ◌&&◌, not, if◌then◌else◌}
+use Rattle.std.proofs.Common.{◌≡◌, ℕ, zero, suc, List, [], ◌∷◌, Bool, true, false, ap, sym, ◌∙◌, refl, inl, inr, Option, Some, None, Ok, Err, Result, get_or, set, cond}
+use Rattle.std.specs.Prelude.{IfOk, IsSome, unwrap_or, is_none, is_some, ◌&&◌, not, if◌then◌else◌}
 use Rattle.std.specs.List.{position}
 use Rattle.std.specs.Option.{option_map}
-use Rattle.std.proofs.lemmas.Bool.{cases_lt, cases_eq}
-use Rattle.std.proofs.lemmas.Option.{same_Some}
+use Rattle.std.proofs.lemmas.Bool.{cases_eq}
 use Rattle.tri_lattice.specs.declared.node.Node.{Node}
 use Rattle.tri_lattice.specs.Extent.{is_in}
 use Rattle.amoebot_state.specs.declared.bot.Bot.{Bot}
 use Rattle.amoebot_state.specs.declared.bot.Port.{Port}
 use Rattle.amoebot_state.specs.declared.verdict.Failure.{Failure}
 use Rattle.amoebot_state.specs.declared.verdict.Failure.TheVariants as failure
-use Rattle.amoebot_state.specs.Ports.{all_ports, behind, is_port, pair_place}
+use Rattle.amoebot_state.specs.Ports.{behind, is_port}
 use Rattle.amoebot_state.specs.Configs.{Config, bot_at, bot_of, blank, covers, is_wall, occupant, set_bot}
-use Rattle.amoebot_state.specs.declared.found.Behind.{Behind}
 use Rattle.amoebot_state.specs.declared.found.Behind.TheVariants as there
-use Rattle.amoebot_state.specs.Around.{on_node, behind_pair, all_behind}
+use Rattle.amoebot_state.specs.Around.{on_node, behind_pair}
 use Rattle.model_ops.specs.Behinds.{connected_there, free_there, owner_there}
-use Rattle.amoebot_state.proofs.WaysFound.{at_pair, no_pair}
-use Rattle.model_ops.specs.WorkingCopies.{WorkingCopy, own_id, copy_after}
 use Rattle.model_ops.proofs.Becomes.{at_own, at_other}
 use Rattle.model_ops.proofs.Members.{position_cons}
 use Rattle.model_ops.proofs.Answered.{neighbour_told}
@@ -58,17 +54,6 @@ free_pair c i p = let b = bot_of c i in free_by (is_port b p) (is_in c.area (beh
 pub owner_pair : (c : Config) (i : ℕ) (p : Port) → owner_there (behind_pair c i p) ≡ owner c i (Some p)
 owner_pair c i p = let b = bot_of c i in owner_by (is_port b p) (is_in c.area (behind b p)) (is_wall c (behind b p)) (occupant c (behind b p))
 
--- the place of a pair has what is behind it
-pub pair_at : (c : Config) (i : ℕ) (p : Port) → p.dir < 6 → slice_get (all_behind c i) (pair_place p) ≡ Some (behind_pair c i p)
-pair_at c i p lt = at_pair (behind_pair c i) p lt
-
--- what is found at the place of a pair, or for another direction, is behind the pair
-pub pair_found : (c : Config) (i : ℕ) (p : Port) (bs : List Behind) (x : Behind) → bs ≡ all_behind c i → (p.dir < 6 → slice_get bs (pair_place p) ≡ Some x) → (6 ≤ p.dir → x ≡ there.NoPort) → x ≡ behind_pair c i p
-pair_found c i p bs x all below above = elim (cases_lt p.dir 6) [
-  | inl lt ↦ same_Some _ _ (sym (below lt) ∙ ap (λ (ys : List Behind). slice_get ys (pair_place p)) all ∙ pair_at c i p lt)
-  | inr ge ↦ above ge ∙ sym (no_pair c i p ge)
-]
-
 -- an occupant behind a pair is there
 pub owner_is_there : (c d : Config) (i : ℕ) (p : Port) (r : Result ℕ Failure) → r ≡ owner_there (behind_pair c i p) → c ≡ d → IfOk r (λ n. IsSome (bot_at d n))
 owner_is_there c d i p (Err f) is same = tt
@@ -88,7 +73,7 @@ abbrev pub with_memory : Config → ℕ → Bot → List ℕ → Config
 with_memory c n b m = let b' : Bot = record b { mem = m } in set_bot c n b'
 
 module _ (c : Config) (n : ℕ) (b : Bot) (m : List ℕ) (at : bot_at c n ≡ Some b) where
-  spots_stay : (v : Node) → occupant (with_memory c n b m) v ≡ occupant c v
+  pub spots_stay : (v : Node) → occupant (with_memory c n b m) v ≡ occupant c v
   spots_stay v = position_set (λ o. covers o v) c.bots n None (let b' : Bot = record b { mem = m } in Some b') (sym (ap (λ o. covers o v) at))
 
   pair_by : (a a' : Bot) (p : Port) → is_port a' p ≡ is_port a p → behind a' p ≡ behind a p
@@ -98,7 +83,7 @@ module _ (c : Config) (n : ℕ) (b : Bot) (m : List ℕ) (at : bot_at c n ≡ So
       ∙ ap (λ (v : Node). if is_port a p then on_node (is_in c.area v) (is_wall c v) (occupant (with_memory c n b m) v) else there.NoPort) node
       ∙ ap (λ (o : Option ℕ). if is_port a p then on_node (is_in c.area (behind a p)) (is_wall c (behind a p)) o else there.NoPort) (spots_stay (behind a p))
 
-  pair_stays : (i : ℕ) (p : Port) → behind_pair (with_memory c n b m) i p ≡ behind_pair c i p
+  pub pair_stays : (i : ℕ) (p : Port) → behind_pair (with_memory c n b m) i p ≡ behind_pair c i p
   pair_stays i p = elim (cases_eq i n) [
     | inl e ↦
         let now : bot_of (with_memory c n b m) i ≡ (record b { mem = m }) = ap (bot_of (with_memory c n b m)) e ∙ bot_is (with_memory c n b m) n _ (at_own c n b _ at) in
@@ -110,15 +95,3 @@ module _ (c : Config) (n : ℕ) (b : Bot) (m : List ℕ) (at : bot_at c n ≡ So
         let same : bot_of (with_memory c n b m) i ≡ bot_of c i = ap (λ o. unwrap_or o blank) (at_other c n _ i ne) in
         pair_by (bot_of c i) (bot_of (with_memory c n b m) i) p (ap (λ (x : Bot). is_port x p) same) (ap (λ (x : Bot). behind x p) same)
   ]
-
-  pairs_stay : (i : ℕ) (ps : List Port) → map (behind_pair (with_memory c n b m) i) ps ≡ map (behind_pair c i) ps
-  pairs_stay i [] = refl
-  pairs_stay i (p ∷ ps) = ap (λ (x : Behind). x ∷ map (behind_pair (with_memory c n b m) i) ps) (pair_stays i p) ∙ ap (λ (xs : List Behind). behind_pair c i p ∷ xs) (pairs_stay i ps)
-
-  pub memory_leaves_pairs : (i : ℕ) → all_behind (with_memory c n b m) i ≡ all_behind c i
-  memory_leaves_pairs i = pairs_stay i all_ports
-
--- an operation leaves whose copy it is
-pub same_own : (w v : WorkingCopy) (r : Result Config Failure) → v ≡ copy_after w r → own_id v ≡ own_id w
-same_own w v (Ok d) is = ap own_id is
-same_own w v (Err f) is = ap own_id is

@@ -23,6 +23,7 @@ pub mod CopiesStand
 pub mod ActsDecide
 pub mod Members
 pub mod BehindsLemmas
+pub mod Drafts
 pub mod Blocked
 pub mod Answered
 pub mod Ranked
@@ -30,6 +31,7 @@ pub mod Lowest
 pub mod Opened
 pub mod OneNode
 pub mod PatchLemmas
+pub mod OwnChange
 pub mod OnlyChanged
 pub mod Carried
 pub mod Decided

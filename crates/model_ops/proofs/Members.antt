@@ -181,26 +181,6 @@ bot_by part c ms i = spread_at (map (body_by part) ms) i ∙ body_of part ms i
 pub bot_placed : (part : Member → Bot) (c : Config) (ms : List Member) (i k : ℕ) (d : Member) → position (λ (m : Member). nat_eq m.id i) ms ≡ Some k → bot_at (config_by part c ms) i ≡ Some (part (get_or ms k d))
 bot_placed part c ms i k d found = bot_by part c ms i ∙ ap (option_map part) (find_placed (λ (m : Member). nat_eq m.id i) ms k d found)
 
-has_id_at : (ms : List Member) (k i : ℕ) (d : Member) → k < length ms → (get_or ms k d).id ≡ i → has_id ms i ≡ true
-has_id_at [] k i d l e = absurd (omega arith)
-has_id_at (m ∷ ms) zero i d l e = ap (λ t. t || has_id ms i) (eq-eqb m.id i e)
-has_id_at (m ∷ ms) (suc k) i d l e = elim (cases_Bool (nat_eq m.id i)) [
-  | inl t ↦ rw t refl
-  | inr f ↦ rw f (has_id_at ms k i d (omega arith) e)
-]
-
-find_with_id : (ms : List Member) (k i : ℕ) (d : Member) → AreApart ms → k < length ms → (get_or ms k d).id ≡ i → find (λ (m : Member). nat_eq m.id i) ms ≡ Some (get_or ms k d)
-find_with_id [] k i d apart l e = absurd (omega arith)
-find_with_id (m ∷ ms) zero i d apart l e = ap (λ t. cond t (Some m) (find (λ (n : Member). nat_eq n.id i) ms)) (eq-eqb m.id i e)
-find_with_id (m ∷ ms) (suc k) i d apart l e = elim (cases_Bool (nat_eq m.id i)) [
-  | inl t ↦ absurd (both_ways _ (ap (has_id ms) (sym (eqb-true m.id i t)) ∙ apart.0) (has_id_at ms k i d (omega arith) e))
-  | inr f ↦ rw f (find_with_id ms k i d apart.1 (omega arith) e)
-]
-
--- the member at a place, where it has the id
-pub bot_with_id : (part : Member → Bot) (c : Config) (ms : List Member) (i k : ℕ) (d : Member) → AreApart ms → k < length ms → (get_or ms k d).id ≡ i → bot_at (config_by part c ms) i ≡ Some (part (get_or ms k d))
-bot_with_id part c ms i k d apart l e = bot_by part c ms i ∙ ap (option_map part) (find_with_id ms k i d apart l e)
-
 -- the amoebot itself is the first member
 pub first_there : (i : ℕ) (ms : List Member) → IsFirst i ms → 0 < length ms
 first_there i [] first = absurd first

@@ -6,6 +6,7 @@ pub mod WorkingCopies
 pub mod Deciders
 pub mod Members
 pub mod Sites
+pub mod Drafts
 pub mod Laws
 pub mod Expansion
 pub use Rattle.amoebot_state.specs.Configs

@@ -151,7 +151,7 @@ fn is_changed(member: &Member) -> bool
     !is_same(&member.found, &member.now)
 }
 
-fn is_same(a: &Bot, b: &Bot) -> bool
+pub(crate) fn is_same(a: &Bot, b: &Bot) -> bool
     ensures { result ≡ bot_eq a.now b.now }
 {
     a == b

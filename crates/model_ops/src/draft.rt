@@ -3,25 +3,25 @@ ghost use Rattle.std.specs.Prelude.{true, unsigned_abs};
 ghost use Rattle.amoebot_state.specs.Limits.{most_nodes, most_vars};
 ghost use Rattle.amoebot_state.specs.{Configs.{bot_at, is_wall, occupant, set_bot}, Walls.{has_node}};
 ghost use Rattle.amoebot_state.specs.{Ports.{is_port, behind}, Refusals.{IsBotInRange}, Occupied.{occupied}};
-ghost use Rattle.amoebot_state.specs.{Around.{all_behind}, Zones.{shown_alone}};
+ghost use Rattle.amoebot_state.specs.Zones.{shown_alone};
 ghost use Rattle.tri_lattice.specs.{Extent.{is_in}, Lattice.{IsNear}};
 ghost use Rattle.ring_guard.specs.Rings.{ring_in};
 ghost use Rattle.model_ops.specs.Operations.{need, connected, is_free, is_free_node, owner, read, write};
 ghost use Rattle.model_ops.specs.Operations.{is_value, peer, seen_over, expand, contract, push, pull};
-ghost use Rattle.model_ops.specs.{Operations.{may_leave, grow, shrink}, Reaches.{Reaches}};
-ghost use Rattle.model_ops.specs.{WorkingCopies.{own_id, own_bot, copy_after, changes}, Sites.{done}};
+ghost use Rattle.model_ops.specs.{Operations.{may_leave, grow, shrink}, Reaches.{Reaches, move}};
+ghost use Rattle.model_ops.specs.{WorkingCopies.{opened, own_id, own_bot, copy_after, changes}, Sites.{done}};
 
 use crate::changes::push_changed;
-use crate::member::{Member, ROOM, id_on, place_of};
+use crate::member::{Member, ROOM, gather, id_on, place_of};
 use crate::peer::Peer;
-use amoebot_state::{Bot, End, Failure, Patch, Port};
+use amoebot_state::{Bot, End, Failure, Found, Moved, Patch, Port};
 use arrayvec::ArrayVec;
 use ring_guard::one_arc;
 use std::marker::Model;
 use tri_lattice::{Area, Node};
 
 /// The walls among the nodes of a zone.
-pub(crate) type Walls = ArrayVec<Node, 10>;
+type Walls = ArrayVec<Node, 10>;
 
 /// A working copy that looks among its amoebots for each answer.
 /// The amoebot itself is the first of them.
@@ -46,6 +46,23 @@ impl Model for Draft {
 }
 
 impl Draft {
+    /// The copy at first: what was found, and no other amoebot. It takes no memory.
+    pub fn new(found: &Found) -> Draft
+        ensures { result ≡ opened found.now }
+    {
+        let mut members = ArrayVec::new();
+        gather(&mut members, found);
+        let mut walls = ArrayVec::new();
+        copy_walls(&mut walls, found.walls());
+        Draft {
+            members,
+            walls,
+            area: found.area(),
+            maxes: found.maxes(),
+            own: found.bot(),
+        }
+    }
+
     /// Whether the node behind a port is occupied. NoPort, where it is none of the amoebot's.
     pub fn connected(&self, port: Port) -> Result<bool, Failure>
         ensures { result ≡ connected self.now.reached (own_id self.now) port }
@@ -92,7 +109,6 @@ impl Draft {
         ensures value { result ≡ done (write self.old.reached (own_id self.old) port var value) }
         ensures after { self.new ≡ copy_after self.old
             (write self.old.reached (own_id self.old) port var value) }
-        ensures stays { (i : ℕ) → all_behind self.new.reached i ≡ all_behind self.old.reached i }
     {
         let id = self.owner(port)?;
         let stored = self.stored(var, value)?;
@@ -187,6 +203,20 @@ impl Draft {
         Ok(())
     }
 
+    /// Makes a movement. With the guard on, it leaves no node that is not surrounded by one arc.
+    pub fn make(&mut self, guard: bool, moved: Moved) -> Result<(), Failure>
+        ensures value { result ≡ done (move self.old.reached (own_id self.old) guard moved) }
+        ensures after { self.new ≡ copy_after self.old (move self.old.reached (own_id self.old) guard moved) }
+    {
+        match moved {
+            Moved::None => Ok(()),
+            Moved::Expand(port) => self.expand(port),
+            Moved::Contract(end) => self.contract(end, guard),
+            Moved::Push(port) => self.push(port),
+            Moved::Pull(port) => self.pull(port),
+        }
+    }
+
     /// Adds the cells that differ from what was found, with their values then and now,
     /// to an empty patch: at most one node, which stands first, and the bodies in rising id.
     /// What the copy has reached is reached by writes and then at most one movement.
@@ -212,21 +242,6 @@ impl Draft {
         ensures plain { IsBotInRange result.now }
     {
         &self.members[0].now
-    }
-
-    /// The amoebot with an id, for which this place is tried before it is looked for.
-    #[inline(always)]
-    pub(crate) fn bot_near(&self, id: u16, place: usize) -> &Bot
-        requires { IsSome (bot_at self.now.reached id) }
-        ensures value { bot_at self.now.reached id ≡ Some result.now }
-        ensures plain { IsBotInRange result.now }
-    {
-        let members = self.members.as_slice();
-        if place < members.len() && members[place].id == id {
-            &members[place].now
-        } else {
-            self.bot(id)
-        }
     }
 
     /// The amoebot with an id.
@@ -283,7 +298,7 @@ impl Draft {
     }
 
     /// The id of the occupant behind a port.
-    pub(crate) fn neighbour(&self, port: Port) -> Result<u16, Failure>
+    fn neighbour(&self, port: Port) -> Result<u16, Failure>
         ensures value { result ≡ owner self.now.reached (own_id self.now) (Some port) }
         ensures there { IfOk result (λ id. IsSome (bot_at self.now.reached id)) }
     {
@@ -368,7 +383,7 @@ impl Draft {
     }
 
     /// Puts another amoebot in the place of the one with an id.
-    fn put(&mut self, id: u16, bot: Bot)
+    pub fn put(&mut self, id: u16, bot: Bot)
         requires there { IsSome (bot_at self.old.reached id) }
         requires plain { IsBotInRange bot }
         ensures { self.new ≡ record self.old { reached = set_bot self.old.reached id bot } }
@@ -386,7 +401,7 @@ fn has_node(nodes: &[Node], node: Node) -> bool
 }
 
 /// Puts these nodes in the place of what the list has. Mostly there are none.
-pub(crate) fn copy_walls(copy: &mut Walls, nodes: &[Node])
+fn copy_walls(copy: &mut Walls, nodes: &[Node])
     requires { length nodes.now ≤ most_nodes }
     ensures { copy.new.items ≡ nodes.now }
 {
@@ -401,7 +416,7 @@ pub(crate) fn copy_walls(copy: &mut Walls, nodes: &[Node])
 }
 
 /// What an amoebot sees of a neighbour over the edge behind its port.
-fn seen_over(own: &Bot, port: Port, other: &Bot) -> Peer
+pub(crate) fn seen_over(own: &Bot, port: Port, other: &Bot) -> Peer
     requires own { IsBotInRange own.now }
     requires port { IsTrue (is_port own.now port) }
     requires other { IsBotInRange other.now }

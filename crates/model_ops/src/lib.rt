@@ -6,6 +6,8 @@ mod changes;
 mod draft;
 mod laws;
 mod member;
+mod near;
+mod own;
 mod peer;
 mod site;
 

@@ -1,62 +1,52 @@
-ghost use Rattle.std.specs.Prelude.{◌≡◌, ◌<◌, [], IsSome, IfOk, Some, None};
+ghost use Rattle.std.specs.Prelude.{◌≡◌, ◌<◌, [], Some, None};
 ghost use Rattle.amoebot_state.specs.{Limits.{most_vars}, Configs.{bot_at}, Refusals.{IsBotInRange}};
 ghost use Rattle.amoebot_state.specs.Zones.{shown_alone};
-ghost use Rattle.model_ops.specs.Operations.{connected, is_free, owner, read, write, peer, expand, contract};
-ghost use Rattle.model_ops.specs.{Operations.{push, pull}, Reaches.{Reaches}};
+ghost use Rattle.model_ops.specs.Operations.{connected, is_free, read, write, peer, expand, contract};
+ghost use Rattle.model_ops.specs.{Operations.{push, pull}, Reaches.{Reaches, move}};
 ghost use Rattle.model_ops.specs.{WorkingCopies.{opened, own_id, copy_after, changes}, Sites.{done}};
 
-use crate::behind::{Around, around, behind_at, connected_there, free_there, owner_there};
-use crate::draft::{Draft, copy_walls};
-use crate::member::gather;
+use crate::behind::{connected_there, free_there, owner_there};
+use crate::draft::{Draft, seen_over};
+use crate::near::body_near;
+use crate::own::{draft_of, push_own, with_value};
 use crate::peer::Peer;
-use amoebot_state::{Bot, End, Failure, Found, Patch, Port};
-use arrayvec::ArrayVec;
+use amoebot_state::{Bot, End, Failure, Found, Moved, Patch, Port};
 use std::marker::Model;
 
 /// A working copy of what an amoebot was shown, on which it operates before anything is committed.
 ///
-/// Until a movement is tried, it looks where it searched when it was made.
-/// Until one succeeds, its answers are those of each world that shows what was found.
+/// It reads what was found where it lies, and keeps its own amoebot beside it.
+/// From then on that it writes to a neighbour or tries a movement, it works on a draft.
+/// Until a movement succeeds, its answers are those of each world that shows what was found.
 /// Once one has, the nodes round a new place were not found:
 /// what stands there is not known to the copy, which takes them for empty.
 #[derive(Drop)]
-pub struct Site {
-    pub(crate) draft: Draft,
-    /// What is behind the pairs of the amoebot, until a movement is tried.
-    around: Option<Around>,
+pub struct Site<'f> {
+    found: &'f Found,
+    /// The amoebot itself, as it has written to itself, until there is a draft.
+    own: Bot,
+    draft: Option<Draft>,
 }
 
-impl Model for Site {
-    ghost use Rattle.std.specs.Prelude.{◌≡◌, List, Some};
-    ghost use Rattle.amoebot_state.specs.{Around.{all_behind}, declared.found.Behind.{Behind}};
-    ghost use Rattle.model_ops.specs.WorkingCopies.{WorkingCopy, own_id};
+impl<'f> Model for Site<'f> {
+    ghost use Rattle.model_ops.specs.{WorkingCopies.{WorkingCopy}, Drafts.{IsOwn, copy_in}};
 
     ghost Value = { WorkingCopy };
 
-    ghost view = { λ s. s.draft };
+    ghost view = { λ s. copy_in s.found.now s.own s.draft };
 
-    ghost invariant = { λ s. (known : List Behind) → s.around ≡ Some known
-        → known ≡ all_behind s.draft.reached (own_id s.draft) };
+    ghost invariant = { λ s. IsOwn s.found.now s.own };
 }
 
-impl Site {
+impl<'f> Site<'f> {
     /// The copy at first: what was found, and no other amoebot. It takes no memory.
-    pub fn new(found: &Found) -> Site
+    pub fn new(found: &'f Found) -> Site<'f>
         ensures { result ≡ opened found.now }
     {
-        let mut members = ArrayVec::new();
-        gather(&mut members, found);
-        let mut walls = ArrayVec::new();
-        copy_walls(&mut walls, found.walls());
         Site {
-            draft: Draft {
-                members,
-                walls,
-                area: found.area(),
-                maxes: found.maxes(),
-                own: found.bot(),
-            },
-            around: Some(around(found)),
+            found,
+            own: *found.own(),
+            draft: None,
         }
     }
 
@@ -64,9 +54,9 @@ impl Site {
     pub fn connected(&self, port: Port) -> Result<bool, Failure>
         ensures { result ≡ connected self.now.reached (own_id self.now) port }
     {
-        match &self.around {
-            Some(around) => connected_there(behind_at(around, port)),
-            None => self.draft.connected(port),
+        match &self.draft {
+            None => connected_there(self.found.behind(port)),
+            Some(draft) => draft.connected(port),
         }
     }
 
@@ -75,9 +65,9 @@ impl Site {
     pub fn is_free(&self, port: Port) -> Result<bool, Failure>
         ensures { result ≡ is_free self.now.reached (own_id self.now) port }
     {
-        match &self.around {
-            Some(around) => free_there(behind_at(around, port)),
-            None => self.draft.is_free(port),
+        match &self.draft {
+            None => free_there(self.found.behind(port)),
+            Some(draft) => draft.is_free(port),
         }
     }
 
@@ -89,16 +79,16 @@ impl Site {
         requires { var < most_vars }
         ensures { result ≡ read self.now.reached (own_id self.now) port var }
     {
-        match port {
-            Some(port) => {
-                if self.around.is_none() {
-                    return self.draft.read(Some(port), var);
+        match &self.draft {
+            None => match port {
+                None => Ok(self.own.mem[usize::from(var)]),
+                Some(port) => {
+                    let id = owner_there(self.found.behind(port))?;
+                    let bot = body_near(self.found, &self.own, id, port);
+                    Ok(bot.mem[usize::from(var)])
                 }
-                let id = self.owner(Some(port))?;
-                let bot = self.draft.bot_near(id, 1 + usize::from(port.dir));
-                Ok(bot.mem[usize::from(var)])
-            }
-            None => Ok(self.draft.own().mem[usize::from(var)]),
+            },
+            Some(draft) => draft.read(port, var),
         }
     }
 
@@ -106,7 +96,14 @@ impl Site {
     pub fn peer(&self, port: Port) -> Result<Peer, Failure>
         ensures { result ≡ peer self.now.reached (own_id self.now) port }
     {
-        self.draft.peer(port)
+        match &self.draft {
+            None => {
+                let id = owner_there(self.found.behind(port))?;
+                let bot = body_near(self.found, &self.own, id, port);
+                Ok(seen_over(&self.own, port, bot))
+            }
+            Some(draft) => draft.peer(port),
+        }
     }
 
     /// Gives a variable below 8 a value: without a port the amoebot's own,
@@ -119,7 +116,22 @@ impl Site {
         ensures after { self.new ≡ copy_after self.old
             (write self.old.reached (own_id self.old) port var value) }
     {
-        self.draft.write(port, var, value)
+        match &mut self.draft {
+            None => match port {
+                None => {
+                    let own = with_value(self.found, &self.own, var, value)?;
+                    self.own = own;
+                    Ok(())
+                }
+                Some(_) => {
+                    let mut draft = draft_of(self.found, &self.own);
+                    let outcome = draft.write(port, var, value);
+                    self.draft = Some(draft);
+                    outcome
+                }
+            },
+            Some(draft) => draft.write(port, var, value),
+        }
     }
 
     /// The amoebot's head enters the node behind a port, and its tail stays.
@@ -129,8 +141,7 @@ impl Site {
         ensures value { result ≡ done (expand self.old.reached (own_id self.old) port) }
         ensures after { self.new ≡ copy_after self.old (expand self.old.reached (own_id self.old) port) }
     {
-        self.around = None;
-        self.draft.expand(port)
+        self.make(false, Moved::Expand(port))
     }
 
     /// The amoebot leaves the node of an end, and is contracted in its other one.
@@ -141,8 +152,7 @@ impl Site {
         ensures after { self.new ≡ copy_after self.old
             (contract self.old.reached (own_id self.old) guard end) }
     {
-        self.around = None;
-        self.draft.contract(end, guard)
+        self.make(guard, Moved::Contract(end))
     }
 
     /// The neighbour behind a port leaves the node there, and the amoebot's head enters it.
@@ -151,8 +161,7 @@ impl Site {
         ensures value { result ≡ done (push self.old.reached (own_id self.old) port) }
         ensures after { self.new ≡ copy_after self.old (push self.old.reached (own_id self.old) port) }
     {
-        self.around = None;
-        self.draft.push(port)
+        self.make(false, Moved::Push(port))
     }
 
     /// The amoebot leaves the node that a port is on, and the head
@@ -162,8 +171,23 @@ impl Site {
         ensures value { result ≡ done (pull self.old.reached (own_id self.old) port) }
         ensures after { self.new ≡ copy_after self.old (pull self.old.reached (own_id self.old) port) }
     {
-        self.around = None;
-        self.draft.pull(port)
+        self.make(false, Moved::Pull(port))
+    }
+
+    /// Makes a movement, on a draft.
+    fn make(&mut self, guard: bool, moved: Moved) -> Result<(), Failure>
+        ensures value { result ≡ done (move self.old.reached (own_id self.old) guard moved) }
+        ensures after { self.new ≡ copy_after self.old (move self.old.reached (own_id self.old) guard moved) }
+    {
+        match &mut self.draft {
+            None => {
+                let mut draft = draft_of(self.found, &self.own);
+                let outcome = draft.make(guard, moved);
+                self.draft = Some(draft);
+                outcome
+            }
+            Some(draft) => draft.make(guard, moved),
+        }
     }
 
     /// The cells that differ from what was found, with their values now: at most one node,
@@ -185,7 +209,10 @@ impl Site {
         requires reaches { Reaches (shown_alone self.now.found) (own_id self.now) self.now.reached }
         ensures { patch.new ≡ changes self.now }
     {
-        self.draft.push_changes(patch);
+        match &self.draft {
+            None => push_own(patch, self.found, &self.own),
+            Some(draft) => draft.push_changes(patch),
+        }
     }
 
     /// The amoebot itself, as it is now.
@@ -193,21 +220,9 @@ impl Site {
         ensures value { bot_at self.now.reached (own_id self.now) ≡ Some result.now }
         ensures plain { IsBotInRange result.now }
     {
-        self.draft.own()
-    }
-
-    /// Whose memory is meant: the amoebot's own, or that of the occupant behind a port.
-    #[inline(always)]
-    fn owner(&self, port: Option<Port>) -> Result<u16, Failure>
-        ensures value { result ≡ owner self.now.reached (own_id self.now) port }
-        ensures there { IfOk result (λ id. IsSome (bot_at self.now.reached id)) }
-    {
-        match port {
-            Some(port) => match &self.around {
-                Some(around) => owner_there(behind_at(around, port)),
-                None => self.draft.neighbour(port),
-            },
-            None => Ok(self.draft.own_id()),
+        match &self.draft {
+            None => &self.own,
+            Some(draft) => draft.own(),
         }
     }
 }

@@ -86,13 +86,13 @@ fn activation(
     Ok(site.patch())
 }
 
-fn write_first(site: &mut Site, port: Option<Port>, value: i32) -> Result<(), Failure>
+fn write_first(site: &mut Site<'_>, port: Option<Port>, value: i32) -> Result<(), Failure>
     ensures { IsUnmoved site.old → IsUnmoved site.new }
 {
     site.write(port, 0, value)
 }
 
-fn carry_out(site: &mut Site, moved: Moved, guard: bool) -> Result<(), Failure>
+fn carry_out(site: &mut Site<'_>, moved: Moved, guard: bool) -> Result<(), Failure>
     ensures value { result ≡ done (move site.old.reached (own_id site.old) guard moved) }
     ensures after { site.new ≡ copy_after site.old (move site.old.reached (own_id site.old) guard moved) }
 {
@@ -300,7 +300,7 @@ enum Call {
 }
 
 /// How a call through a port fails.
-fn call_failure(site: &mut Site, call: Call, port: Port) -> Option<Failure> {
+fn call_failure(site: &mut Site<'_>, call: Call, port: Port) -> Option<Failure> {
     match call {
         Call::Connected => site.connected(port).err(),
         Call::Free => site.is_free(port).err(),
@@ -429,7 +429,7 @@ fn nodes_outside_the_area_belong_to_no_arc(rt: HostRuntime) -> Result<(), Fail> 
 
 /// A site answers each question about a pair as one that searches does,
 /// also for directions that there are none.
-/// It searches once a movement was tried, and one that fails changes nothing.
+/// It has a draft once a movement was tried, and one that fails changes nothing.
 fn answers_alike(rt: &impl Abort, found: &Found) {
     let site = Site::new(found);
     let mut searching = Site::new(found);
@@ -439,6 +439,7 @@ fn answers_alike(rt: &impl Abort, found: &Found) {
             assert!(rt; site.connected(*port) == searching.connected(*port));
             assert!(rt; site.is_free(*port) == searching.is_free(*port));
             assert!(rt; site.read(Some(*port), 0) == searching.read(Some(*port), 0));
+            assert!(rt; site.peer(*port) == searching.peer(*port));
         }
     }
     assert!(rt; site.read(None, 0) == searching.read(None, 0));

@@ -1,10 +1,15 @@
 use Rattle.std.proofs.Common.{◌∙◌, ap, sym, subst, Ok}
 use Rattle.std.specs.List.{list_all}
+use Rattle.amoebot_state.specs.Zones.{IsShown}
+use Rattle.model_ops.specs.WorkingCopies.{WorkingCopy}
 use Rattle.action_tree.specs.Writable.{is_action}
 use Rattle.action_check.specs.Rules.{ProgramKept}
 use Rattle.action_meaning.specs.Verdicts.{verdict_shown}
 use Rattle.action_eval.proofs.ActionLoops.{actions_formed, all_kept, all_placed, verdict_is, made_is, idle_is, failed_is}
 use Rattle.action_eval.proofs.runner.RunnerDecider.decide.Goals as goal
+
+pub actions_decide-requires-clause-shown : goal.actions_decide-requires-clause-shown
+actions_decide-requires-clause-shown c = subst (λ (w : WorkingCopy). IsShown w.found) (sym c.new.ensures) c.own.ensures.shown
 
 pub actions_decide-requires-clause-kept : goal.actions_decide-requires-clause-kept
 actions_decide-requires-clause-kept c =

@@ -1,18 +1,9 @@
-use Rattle.std.proofs.Common.{◌∙◌, ap, sym}
-use Rattle.std.proofs.lemmas.Option.{same_Some}
-use Rattle.amoebot_state.specs.Around.{all_behind}
-use Rattle.amoebot_state.specs.Walls.{node_numbers}
-use Rattle.model_ops.specs.WorkingCopies.{WorkingCopy, own_id}
-use Rattle.model_ops.proofs.Opened.{opens}
+use Rattle.std.proofs.Common.{sym}
+use Rattle.model_ops.proofs.Drafts.{own_first, own_found}
 use Rattle.model_ops.proofs.site.Site.new.Goals as goal
 
 pub invariant_of-result : goal.invariant_of-result
-invariant_of-result c = (opens c.args.found.now c.area.result c.copy_walls.new.copy.items c.maxes.result c.bot.result c.gather.new.members.items c.gather.ensures.shown c.area.ensures (ap (node_numbers c.args.found.now.area) c.copy_walls.ensures ∙ c.walls.ensures.value) c.maxes.ensures c.bot.ensures c.gather.ensures.value).0
-
-pub invariant_of-result-2 : goal.invariant_of-result-2
-invariant_of-result-2 c = λ known is.
-    let opened = opens c.args.found.now c.area.result c.copy_walls.new.copy.items c.maxes.result c.bot.result c.gather.new.members.items c.gather.ensures.shown c.area.ensures (ap (node_numbers c.args.found.now.area) c.copy_walls.ensures ∙ c.walls.ensures.value) c.maxes.ensures c.bot.ensures c.gather.ensures.value in
-    sym (same_Some _ _ is) ∙ c.around.ensures ∙ ap (λ (w : WorkingCopy). all_behind w.reached (own_id w)) (sym opened.1)
+invariant_of-result c = own_first c.args.found.now c.own.result.now c.own.ensures.value c.own.ensures.plain
 
 pub returns : goal.returns
-returns c = (opens c.args.found.now c.area.result c.copy_walls.new.copy.items c.maxes.result c.bot.result c.gather.new.members.items c.gather.ensures.shown c.area.ensures (ap (node_numbers c.args.found.now.area) c.copy_walls.ensures ∙ c.walls.ensures.value) c.maxes.ensures c.bot.ensures c.gather.ensures.value).1
+returns c = own_found c.args.found.now c.own.result.now (sym c.own.ensures.value)
