@@ -2,8 +2,8 @@
 use Rattle.std.proofs.Common.{◌≡◌, ◌≤◌, ℕ, List, length, Option, None, inl, inr, refl, sym, subst}
 use Rattle.claim_core.specs.declared.report.Report.{Report}
 use Rattle.commands.specs.declared.words.Command.{Command}
-use Rattle.commands.specs.declared.status.Status.{Status}
-use Rattle.commands.specs.declared.status.Status.TheVariants as status
+use Rattle.document_answers.specs.declared.status.Status.{Status}
+use Rattle.document_answers.specs.declared.status.Status.TheVariants as status
 use Rattle.commands.specs.Commands.{limit_for}
 use Rattle.commands.specs.Laws.{OwedIsOne, ReportsAreOfTurns, ReportsAreOfSamples}
 use Rattle.commands.specs.Reads.{Read, up_to_fault}

@@ -13,12 +13,13 @@ use Rattle.shipped_programs.specs.declared.shipped.Shipped.{Shipped}
 use Rattle.commands.specs.declared.words.Command.{Command}
 use Rattle.commands.specs.declared.words.Command.TheVariants.{Document, Show, Sample}
 use Rattle.commands.specs.declared.words.DocumentCommand.{DocumentCommand}
-use Rattle.commands.specs.declared.status.Status.{Status}
-use Rattle.commands.specs.declared.status.Status.TheVariants as status
+use Rattle.document_answers.specs.declared.status.Status.{Status}
+use Rattle.document_answers.specs.declared.status.Status.TheVariants as status
 use Rattle.commands.specs.Commands.{IsDocumentOf, MakesTurns, ReadsNothing}
 use Rattle.commands.specs.Sample.{six_lines}
 use Rattle.text_tokens.specs.Kinds.{name}
-use Rattle.commands.specs.Lines.{refusal_line, too_long}
+use Rattle.document_answers.specs.Answers.{refusal_line}
+use Rattle.commands.specs.Lines.{too_long}
 use Rattle.commands.specs.Laws.{OwedIsOne, SameOwed, DocumentsHaveOutcomes, ReportsAreOfTurns, ReportsAreOfDocuments, ReportsAreOfSamples}
 use Rattle.commands.specs.Reads.{Read, nothing, whole, above, up_to_fault, some}
 use Rattle.commands.specs.Outcomes.{IsOutcome}

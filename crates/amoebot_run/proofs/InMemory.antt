@@ -6,8 +6,8 @@ use Rattle.outer_io.specs.Told.{Rose}
 use Rattle.outer_io.specs.Writings.{WritesAll}
 use Rattle.claim_core.specs.declared.report.Report.{Report}
 use Rattle.commands.specs.declared.words.Command.{Command}
-use Rattle.commands.specs.declared.status.Status.{Status}
-use Rattle.commands.specs.declared.status.Status.TheVariants as status
+use Rattle.document_answers.specs.declared.status.Status.{Status}
+use Rattle.document_answers.specs.declared.status.Status.TheVariants as status
 use Rattle.commands.specs.Reads.{Read, IsReading, nothing, whole, above, up_to_fault, some}
 use Rattle.amoebot_run.specs.Endings.{IsAnswered, IsOutsideFault, IsUnwritten, IsReadingOf, IsReportOfCall, of_document, of_sample, HasText}
 use Rattle.amoebot_run.proofs.Fronts.{whole_is, no_longer}

@@ -10,13 +10,13 @@ use Rattle.action_meaning.specs.Verdicts.{verdict_shown}
 use Rattle.commands.specs.declared.words.Command.{Command}
 use Rattle.commands.specs.declared.words.Command.TheVariants.{Document}
 use Rattle.commands.specs.declared.words.DocumentCommand.{DocumentCommand}
-use Rattle.commands.specs.declared.answer.Answer.{Answer}
-use Rattle.commands.specs.declared.answer.Prepared.{Prepared}
-use Rattle.commands.specs.declared.answer.Task.TheVariants as task
-use Rattle.commands.specs.declared.answer.Telling.{Telling}
-use Rattle.commands.specs.declared.status.Status.{Status}
-use Rattle.commands.specs.declared.status.Status.TheVariants as status
-use Rattle.commands.specs.Answers.{IsPrepared, IsTaskOf, TellsReport, Tells}
+use Rattle.document_answers.specs.declared.answer.Answer.{Answer}
+use Rattle.commands.specs.declared.prepared.Prepared.{Prepared}
+use Rattle.commands.specs.declared.tasks.Task.TheVariants as task
+use Rattle.commands.specs.declared.prepared.Telling.{Telling}
+use Rattle.document_answers.specs.declared.status.Status.{Status}
+use Rattle.document_answers.specs.declared.status.Status.TheVariants as status
+use Rattle.commands.specs.Tasks.{IsPrepared, IsTaskOf, TellsReport, Tells}
 use Rattle.commands.specs.Owed.{IsOwed}
 use Rattle.commands.specs.Reads.{Read, whole}
 use Rattle.amoebot_run.specs.declared.begin.Begun.{Begun}

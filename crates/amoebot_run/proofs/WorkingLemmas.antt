@@ -9,11 +9,11 @@ use Rattle.node_claims.specs.declared.turn.Turn.{Turn}
 use Rattle.shipped_programs.specs.declared.shipped.Shipped.{Shipped}
 use Rattle.commands.specs.declared.words.Command.{Command}
 use Rattle.commands.specs.declared.words.Command.TheVariants.{Show}
-use Rattle.commands.specs.declared.answer.Maker.{Maker}
-use Rattle.commands.specs.declared.answer.Maker.TheVariants as maker
-use Rattle.commands.specs.declared.status.Status.{Status}
-use Rattle.commands.specs.declared.status.Status.TheVariants as status
-use Rattle.commands.specs.Answers.{turn_maker}
+use Rattle.commands.specs.declared.prepared.Maker.{Maker}
+use Rattle.commands.specs.declared.prepared.Maker.TheVariants as maker
+use Rattle.document_answers.specs.declared.status.Status.{Status}
+use Rattle.document_answers.specs.declared.status.Status.TheVariants as status
+use Rattle.commands.specs.Tasks.{turn_maker}
 use Rattle.commands.specs.Commands.{IsTicketed, IsWorked, NeedsWorkers, maker_of, no_maker, the_workers, the_tickets}
 use Rattle.commands.proofs.TurnMakers.{nobody_works}
 use Rattle.amoebot_run.specs.declared.ended.Ended.{Ended}

@@ -9,8 +9,8 @@ use Rattle.shape_files.specs.Documents.{Contents}
 use Rattle.commands.specs.declared.words.Command.{Command}
 use Rattle.commands.specs.declared.words.Command.TheVariants.{Document, Sample}
 use Rattle.commands.specs.declared.words.DocumentCommand.{DocumentCommand}
-use Rattle.commands.specs.declared.status.Status.{Status}
-use Rattle.commands.specs.declared.status.Status.TheVariants as status
+use Rattle.document_answers.specs.declared.status.Status.{Status}
+use Rattle.document_answers.specs.declared.status.Status.TheVariants as status
 use Rattle.commands.specs.Commands.{MakesTurns, ReadsNothing, limit_for}
 use Rattle.commands.specs.Headline.{IsRunOfDocument, IsRunOfSample}
 use Rattle.commands.specs.Laws.{HasOneReport, HasOneText, SameIfAny}

@@ -15,12 +15,12 @@ use Rattle.caller_workers.specs.Turns.{AreTurnsOf}
 use Rattle.action_tree.specs.Trees.{Program}
 use Rattle.action_meaning.specs.Verdicts.{verdict_shown}
 use Rattle.commands.specs.declared.words.Command.{Command}
-use Rattle.commands.specs.declared.answer.Maker.{Maker}
-use Rattle.commands.specs.declared.answer.Maker.TheVariants as maker
-use Rattle.commands.specs.declared.answer.Prepared.{Prepared}
-use Rattle.commands.specs.declared.status.Status.{Status}
-use Rattle.commands.specs.declared.status.Status.TheVariants as status
-use Rattle.commands.specs.Answers.{IsPrepared, ReachedBy}
+use Rattle.commands.specs.declared.prepared.Maker.{Maker}
+use Rattle.commands.specs.declared.prepared.Maker.TheVariants as maker
+use Rattle.commands.specs.declared.prepared.Prepared.{Prepared}
+use Rattle.document_answers.specs.declared.status.Status.{Status}
+use Rattle.document_answers.specs.declared.status.Status.TheVariants as status
+use Rattle.commands.specs.Tasks.{IsPrepared, ReachedBy}
 use Rattle.commands.specs.Reads.{Read}
 use Rattle.amoebot_run.specs.declared.ended.Ended.{Ended}
 use Rattle.amoebot_run.specs.declared.begin.Begun.{Begun}

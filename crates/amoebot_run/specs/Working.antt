@@ -9,8 +9,8 @@ use Rattle.node_claims.specs.declared.turn.Turn.{Turn}
 use Rattle.caller_workers.specs.Turns.{AreTurnsOf}
 use Rattle.commands.specs.declared.words.Command.{Command}
 use Rattle.commands.specs.Commands.{IsTicketed, IsWorked}
-use Rattle.commands.specs.declared.status.Status.{Status}
-use Rattle.commands.specs.declared.status.Status.TheVariants as status
+use Rattle.document_answers.specs.declared.status.Status.{Status}
+use Rattle.document_answers.specs.declared.status.Status.TheVariants as status
 
 -- there is a report, and these are what became of its turns
 abbrev pub AreOfReport : {W : Type 0} → Option Report → List (List (Turn W)) → Type 0

@@ -10,9 +10,10 @@ ghost use Rattle.amoebot_run.specs.{Parts.{HasEnded, IsBegun}, Working.{HasTicke
 use crate::ended::{Ended, end_with, end_with_answer, end_with_line};
 use amoebot_state::NoMemory;
 use commands::{
-    Command, DocumentCommand, Prepared, Status, Task, answer_show, command_of, prepare_sample,
-    row_of, task_of,
+    Command, DocumentCommand, Prepared, Task, answer_show, command_of, prepare_sample, row_of,
+    task_of,
 };
+use document_answers::Status;
 use outer_io::{ReadError, Sink, Source, read_document};
 use shipped_programs::Shipped;
 use std::alloc::Global;

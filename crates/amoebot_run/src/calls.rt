@@ -5,7 +5,8 @@ ghost use Rattle.std.specs.{Prelude.{◌≡◌, ◌≤◌, ◌⊎◌, ℕ, true,
 ghost use Rattle.std.specs.String.{string_bytes};
 ghost use Rattle.outer_io.specs.Told.{Rose};
 ghost use Rattle.shape_files.specs.Documents.{Contents};
-ghost use Rattle.commands.specs.{Syntax.{begins_with_dash}, Commands.{IsDocumentOf, ReadsNothing, limit_for}};
+ghost use Rattle.commands.specs.Syntax.{begins_with_dash};
+ghost use Rattle.commands.specs.Commands.{IsDocumentOf, ReadsNothing, limit_for};
 ghost use Rattle.commands.specs.Reads.{nothing, whole};
 ghost use Rattle.commands.specs.declared.words.DocumentCommand.{DocumentCommand as DocumentCommandValue};
 ghost use Rattle.amoebot_run.specs.Clauses.{CameTo, WroteAll, WroteFront, asked};
@@ -19,9 +20,8 @@ use crate::finish::finish;
 use crate::turns::make_turns;
 use activation::{Gate, NoGate};
 use amoebot_state::NoMemory;
-use commands::{
-    Command, Prepared, Status, documents_have_outcomes, owed_is_one, reports_are_of_runs,
-};
+use commands::{Command, Prepared, documents_have_outcomes, owed_is_one, reports_are_of_runs};
+use document_answers::Status;
 use outer_io::{Sink, Source, SureSink, SureSource, text_is_kept_as_one_piece};
 use std::alloc::Global;
 use std::sync::Wait;

@@ -4,7 +4,7 @@ ghost use Rattle.std.specs.Prelude.{◌≡◌, ◌⊎◌, None};
 ghost use Rattle.amoebot_run.specs.Parts.{IsEndOfWriting};
 
 use claim_core::Report;
-use commands::{Answer, Status};
+use document_answers::{Answer, Status};
 use outer_io::{Sink, WriteFault, write_all};
 use ticket_commit::TicketTurns;
 use turn_workers::Turns;

@@ -3,7 +3,7 @@
 
 ghost use Rattle.claim_core.specs.Good.{Good};
 ghost use Rattle.action_meaning.specs.Verdicts.{verdict_shown};
-ghost use Rattle.commands.specs.Answers.{IsCounted, Tells};
+ghost use Rattle.commands.specs.Tasks.{IsCounted, Tells};
 ghost use Rattle.amoebot_run.specs.Parts.{IsEndedRun};
 
 use crate::ended::{Ended, end_with, end_with_answer};
@@ -11,7 +11,8 @@ use crate::turns::{Made, MadeTurns};
 use action_eval::Runner;
 use amoebot_state::NoMemory;
 use claim_core::Lists;
-use commands::{Status, Telling, tell};
+use commands::{Telling, tell};
+use document_answers::Status;
 use outer_io::Sink;
 use std::alloc::Global;
 

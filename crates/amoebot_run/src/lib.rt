@@ -8,5 +8,5 @@ mod finish;
 mod turns;
 
 pub use calls::{run, run_text};
-pub use commands::Status;
+pub use document_answers::Status;
 pub use ended::Ended;

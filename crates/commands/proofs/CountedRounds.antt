@@ -9,7 +9,7 @@ use Rattle.round_meter.specs.Rounds.{IsSettled, AllSettled, EndsRound, rested, a
 use Rattle.round_meter.specs.Meters.{GoesOnIn}
 use Rattle.round_meter.proofs.MeterLemmas.{first_is_metered, metered_next}
 use Rattle.small_worlds.proofs.Rows.{valid}
-use Rattle.commands.specs.Rounds.{AgreesInRounds, CountedIn}
+use Rattle.document_answers.specs.Rounds.{AgreesInRounds, CountedIn}
 use Rattle.commands.specs.WorkExamples.{start, second_spread, decides, second_expansion, meter_at_start, meter_behind}
 
 abbrev entries : List Entry

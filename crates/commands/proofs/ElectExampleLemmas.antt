@@ -27,10 +27,10 @@ use Rattle.shape_files.specs.declared.section_kind.Form.TheVariants as form
 use Rattle.small_worlds.specs.Rows.{row_area, node}
 use Rattle.small_worlds.proofs.Rows.{is_area}
 use Rattle.election_law.specs.Elections.{IsErosion, IsReadyBot, IsReadyStart, IsElected, is_leader, is_candidate, candidate_at}
-use Rattle.commands.specs.Journals.{at_end, DocumentRecord, in_plain, JournalOutcome, agreeing, differing, differs_line}
+use Rattle.document_answers.specs.Journals.{at_end, DocumentRecord, in_plain, JournalOutcome, agreeing, differing, differs_line}
 use Rattle.commands.specs.declared.words.DocumentCommand.TheVariants.{Elect}
 use Rattle.commands.specs.Words.{of_two_words}
-use Rattle.commands.specs.declared.status.Status.TheVariants as status
+use Rattle.document_answers.specs.declared.status.Status.TheVariants as status
 use Rattle.commands.specs.Lines.{bad_start}
 use Rattle.commands.specs.Elect.{not_ready, begun}
 use Rattle.commands.specs.Owed.{served}

@@ -18,22 +18,23 @@ use Rattle.shape_files.specs.Documents.{Contents, HasContents}
 use Rattle.shape_files.specs.LeastVersions.{DecidedFromEach}
 use Rattle.shape_files.specs.Fitting.{DocumentsAreSound, IsWorldShape}
 use Rattle.commands.specs.Elect.{no_erosion, not_ready, ElectOutcome, begun, elected_text}
-use Rattle.commands.specs.Replay.{agrees_line}
+use Rattle.document_answers.specs.Replay.{agrees_line}
 use Rattle.commands.specs.declared.words.DocumentCommand.TheVariants.{Elect, Replay}
-use Rattle.commands.specs.declared.answer.Answer.{Answer}
-use Rattle.commands.specs.declared.status.Status.{Status}
-use Rattle.commands.specs.declared.status.Status.TheVariants as status
-use Rattle.commands.specs.Journals.{AgreesIn, DiffersAt, differs_line, DocumentRecord, agreeing, differing, EntriesOutcome}
+use Rattle.document_answers.specs.declared.answer.Answer.{Answer}
+use Rattle.document_answers.specs.declared.status.Status.{Status}
+use Rattle.document_answers.specs.declared.status.Status.TheVariants as status
+use Rattle.document_answers.specs.Journals.{AgreesIn, DiffersAt, differs_line, DocumentRecord, agreeing, differing, EntriesOutcome}
 use Rattle.commands.specs.ElectLaws.{ElectEndsAsReplay, ElectionsAreWon, IsWonElection}
-use Rattle.commands.specs.Lines.{bad_start, refusal_line}
+use Rattle.commands.specs.Lines.{bad_start}
+use Rattle.document_answers.specs.Answers.{refusal_line, IsAnswerOf, with_text}
 use Rattle.commands.specs.Outcomes.{IsOutcome}
 use Rattle.commands.specs.Owed.{served}
 use Rattle.commands.specs.Reads.{whole}
 use Rattle.commands.specs.RenewLaws.{IsOwedFor}
 use Rattle.commands.proofs.Outcomes.{documents_have_outcomes}
-use Rattle.commands.proofs.OwedTexts.{answers}
-use Rattle.commands.specs.Answers.{IsAnswerOf, with_text}
-use Rattle.commands.proofs.JournalLemmas.{IsAgreesLine, agreeing_journal, done_journal, other_end, replay_agrees}
+use Rattle.document_answers.proofs.AnswerLemmas.{answers}
+use Rattle.document_answers.proofs.JournalAnswers.{IsAgreesLine}
+use Rattle.commands.proofs.JournalLemmas.{agreeing_journal, done_journal, other_end, replay_agrees}
 
 -- ---- what is answered
 

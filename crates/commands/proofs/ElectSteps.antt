@@ -7,8 +7,8 @@ use Rattle.amoebot_state.specs.Configs.{Config}
 use Rattle.amoebot_state.specs.Zones.{Shown}
 use Rattle.serial_model.specs.Replays.{IsNoStep, RunIn, StepIn}
 use Rattle.serial_model.proofs.Runs.{run_push}
-use Rattle.commands.specs.Journals.{DiffersAt}
-use Rattle.commands.proofs.ToldEntries.{stops}
+use Rattle.document_answers.specs.Journals.{DiffersAt}
+use Rattle.document_answers.proofs.ToldEntries.{stops}
 
 module _ {E : Type 0} (form : Entry → E) (f : Shown → Verdict) (start : Config) (told : List E) (world : Config) (place : ℕ) (made : RunIn form f start (take place told) world) where
   -- the next entry is a step

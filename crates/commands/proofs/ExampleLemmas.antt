@@ -24,25 +24,25 @@ use Rattle.shape_files.specs.declared.section_kind.Form.TheVariants as form
 use Rattle.shape_files.specs.DocumentRows.{program_text, out, only_program}
 use Rattle.small_worlds.specs.Rows.{row_area, row_frame, node, bot_in_row}
 use Rattle.claim_core.specs.declared.report.Report.{Report}
-use Rattle.commands.specs.Reports.{report_text, DocumentLists, reported}
-use Rattle.commands.specs.Interleave.{IsScheduled}
-use Rattle.commands.specs.Journals.{at_end, DocumentRecord, in_plain, agreeing, differing, JournalOutcome, differs_line}
+use Rattle.document_answers.specs.Reports.{report_text, DocumentLists, reported}
+use Rattle.document_answers.specs.Interleave.{IsScheduled}
+use Rattle.document_answers.specs.Journals.{at_end, DocumentRecord, in_plain, agreeing, differing, JournalOutcome, differs_line}
 use Rattle.commands.specs.WorkExamples.{nobody, one_alone}
 use Rattle.commands.proofs.Measures.{nobody_is_measured}
 use Rattle.small_worlds.proofs.Rows.{is_area, one_id, IsThereIn, one_has_ended, two_have_ended}
 use Rattle.shipped_programs.specs.declared.shipped.Shipped.TheVariants.{Line}
 use Rattle.commands.specs.declared.words.DocumentCommand.TheVariants.{Run, Interleave, Replay, Check, Measure, Renew, Tickets}
 use Rattle.commands.specs.declared.words.Command.TheVariants.{Document}
-use Rattle.commands.specs.declared.status.Status.TheVariants as status
+use Rattle.document_answers.specs.declared.status.Status.TheVariants as status
 use Rattle.commands.specs.Reads.{whole}
 use Rattle.commands.specs.Owed.{IsOwed, usage, read_fault, longer, refused, served, shown}
-use Rattle.commands.specs.Answers.{of_document}
+use Rattle.commands.specs.Tasks.{of_document}
 use Rattle.commands.specs.Words.{is_number_word, of_two_words, number_of}
 use Rattle.commands.specs.Examples.{with_shape, with_nobody, with_list, with_two_lists, with_schedule, expansion_journal, spread_text, still_text, spread_config, one_list, two_lists, schedule, expansion, and_nobody, and_list, and_two_lists, and_schedule, and_journal, expansion_report, expansion_report_text, renewed_expansion, two_callers_report, both_text, empty_refused, SmallAnswers}
 use Rattle.commands.proofs.SmallDocuments.{says, are_answered}
-use Rattle.commands.specs.Texts.{written}
-use Rattle.commands.specs.Replay.{agrees_line}
-use Rattle.commands.specs.Renew.{renewed_text}
+use Rattle.document_answers.specs.Texts.{written}
+use Rattle.document_answers.specs.Replay.{agrees_line}
+use Rattle.document_answers.specs.Renew.{renewed_text}
 use Rattle.amoebot_state.specs.declared.verdict.Entry.{Entry}
 
 abbrev g : Setup

@@ -27,21 +27,21 @@ use Rattle.small_worlds.specs.Rows.{node, bot_in_row}
 use Rattle.shape_files.proofs.LeastVersionsLemmas.{later_is_document}
 use Rattle.election_law.specs.Elections.{IsErosion}
 use Rattle.commands.specs.WorkExamples.{nobody, one_alone}
-use Rattle.commands.specs.Journals.{at_entry, DocumentRecord, in_full, agreeing, differing, JournalOutcome, in_plain, differs_line}
+use Rattle.document_answers.specs.Journals.{at_entry, DocumentRecord, in_full, agreeing, differing, JournalOutcome, in_plain, differs_line}
 use Rattle.commands.specs.declared.words.DocumentCommand.TheVariants.{Replay, Renew, Rewind, Rounds, Elect}
 use Rattle.commands.specs.Words.{is_number_word, number_of, of_two_words}
-use Rattle.commands.specs.declared.status.Status.TheVariants as status
-use Rattle.commands.specs.Lines.{no_such_place, not_erosion}
-use Rattle.commands.specs.Rewind.{no_place, unwound, not_unwound}
+use Rattle.document_answers.specs.declared.status.Status.TheVariants as status
+use Rattle.document_answers.specs.Rewind.{no_such_place, no_place, unwound, not_unwound}
+use Rattle.commands.specs.Lines.{not_erosion}
 use Rattle.commands.specs.Owed.{refused, served}
 use Rattle.commands.specs.Examples.{with_shape, expansion_journal, spread_text, still_text, spread_config, expansion, and_journal}
 use Rattle.commands.specs.ExplainExamples.{SmallExplanations, full_text, still_full_text, wide_full_text, other_old_text, recorded_with_nobody, wide_spread, other_expansion, and_entry, and_full_journal, and_empty_journal, early_refused}
 use Rattle.commands.proofs.ExampleLemmas.{good, its_record, its_journal_differs, valid, spread_is_valid}
 use Rattle.commands.proofs.SmallDocuments.{are_answered, says, says_since}
 use Rattle.commands.specs.Elect.{no_erosion}
-use Rattle.commands.specs.Replay.{agrees_line}
-use Rattle.commands.specs.Renew.{renewed_text}
-use Rattle.commands.specs.Rounds.{IsRoundsText}
+use Rattle.document_answers.specs.Replay.{agrees_line}
+use Rattle.document_answers.specs.Renew.{renewed_text}
+use Rattle.document_answers.specs.Rounds.{IsRoundsText}
 
 abbrev its_full_record : DocumentRecord (and_full_journal spread_config)
 its_full_record = record { program = out; start = one_alone; final = spread_config; its_program = refl; its_shape = refl; its_final = refl }

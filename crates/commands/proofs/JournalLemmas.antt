@@ -1,6 +1,5 @@
 -- How a command ends for the journal of a document: in one way, in some way, and as `replay` does.
-use Rattle.std.proofs.Common.{◌≡◌, ◌≢◌, ℕ, List, length, map, Option, Some, None, inl, inr, ap, sym, subst, refl, ◌∙◌, Result}
-use Rattle.std.specs.Prelude.{IfOk}
+use Rattle.std.proofs.Common.{◌≡◌, ◌≢◌, ℕ, List, length, map, Option, Some, None, inl, inr, ap, sym, subst, refl, ◌∙◌}
 use Rattle.std.proofs.lemmas.Bool.{cases_Bool}
 use Rattle.std.proofs.lemmas.Option.{none-some}
 use Rattle.amoebot_state.specs.declared.verdict.Entry.{Entry}
@@ -21,20 +20,18 @@ use Rattle.shape_files.specs.Documents.{Contents}
 use Rattle.shape_files.specs.Fitting.{FitTogether}
 use Rattle.commands.specs.declared.words.DocumentCommand.{DocumentCommand}
 use Rattle.commands.specs.declared.words.DocumentCommand.TheVariants.{Replay}
-use Rattle.commands.specs.declared.status.Status.{Status}
-use Rattle.commands.specs.declared.status.Status.TheVariants as status
+use Rattle.document_answers.specs.declared.status.Status.{Status}
+use Rattle.document_answers.specs.declared.status.Status.TheVariants as status
 use Rattle.commands.specs.Commands.{IsDocumentOf, IsDocumentFaultOf}
 use Rattle.commands.specs.Laws.{SameIfAny}
 use Rattle.commands.specs.Outcomes.{IsOutcome}
 use Rattle.commands.specs.Owed.{read_fault, longer, refused, served}
 use Rattle.commands.specs.Reads.{Read, whole}
-use Rattle.commands.specs.Journals.{Agrees, DocumentRecord, EntriesOutcome, JournalOutcome, TellsEntries, agreeing, differing, differs_line, in_full, in_plain}
+use Rattle.document_answers.specs.Journals.{Agrees, DocumentRecord, EntriesOutcome, JournalOutcome, TellsEntries, agreeing, differing, differs_line, in_full, in_plain}
 use Rattle.commands.specs.RenewLaws.{EndsAsReplay, IsOwedFor}
-use Rattle.commands.specs.Replay.{agrees_line}
-use Rattle.commands.specs.ReportLaws.{ReplayIsDecided}
-use Rattle.std.proofs.lemmas.Result.{IfOk-weaker}
-use Rattle.commands.specs.declared.answer.Answer.{Answer}
-use Rattle.commands.specs.Renew.{renewed_text}
+use Rattle.document_answers.specs.Replay.{agrees_line}
+use Rattle.document_answers.specs.AnswerLaws.{ReplayIsDecided}
+use Rattle.document_answers.proofs.JournalAnswers.{IsAgreesLine, IsRenewedText}
 
 -- ---- one end
 
@@ -150,29 +147,7 @@ agreeing_as a d IsText es text (inr its) run is = in_plain (map plain_entry es) 
 pub agreeing_journal : (a : Contents) (d : DocumentRecord a) (IsText : List Entry → List ℕ → Type 0) (es : List Entry) (text : List ℕ) → JournalAgrees a d es → IsText es text → JournalOutcome a d IsText status.Done None text
 agreeing_journal a d IsText es text agrees is = agreeing_as a d IsText es text agrees.told agrees.agrees is
 
--- what is answered to the entries of a document is answered to its journal
-module _ {X : Type 0} (a : Contents) (IsText : DocumentRecord a → List Entry → List ℕ → Type 0) (d : DocumentRecord a) (r : Result Answer X) where
-  abbrev OfJournal : Answer → Type 0
-  OfJournal answer = (e : DocumentRecord a) × JournalOutcome a e (IsText e) answer.status answer.report answer.text
-
-  abbrev OfEntries : {E : Type 0} → (Entry → E) → List E → Answer → Type 0
-  OfEntries form told answer = EntriesOutcome form (verdict_shown d.program) d.start told d.final (IsText d) answer.status answer.report answer.text
-
-  pub of_full : (told : List Entry) → a.entries ≡ Some told → IfOk r (OfEntries full_entry told) → IfOk r OfJournal
-  of_full told its ok = IfOk-weaker r (OfEntries full_entry told) OfJournal (λ answer is. (d, in_full told its is)) ok
-
-  pub of_plain : (told : List PlainEntry) → a.plain ≡ Some told → IfOk r (OfEntries plain_entry told) → IfOk r OfJournal
-  of_plain told its ok = IfOk-weaker r (OfEntries plain_entry told) OfJournal (λ answer is. (d, in_plain told its is)) ok
-
 -- ---- as `replay` ends
-
--- the text that `renew` writes for a run of these entries
-abbrev pub IsRenewedText : (a : Contents) → DocumentRecord a → List Entry → List ℕ → Type 0
-IsRenewedText a d es text = text ≡ renewed_text d.program d.start es d.final
-
--- the line of `replay` for a run of these entries
-abbrev pub IsAgreesLine : List Entry → List ℕ → Type 0
-IsAgreesLine es text = text ≡ agrees_line (length es)
 
 -- what `replay` owes for a document whose journal agrees
 pub replay_agrees : (bytes : List ℕ) (a : Contents) (d : DocumentRecord a) (es : List Entry) → IsDocumentOf Replay bytes a → JournalAgrees a d es → IsOwedFor Replay (whole bytes) status.Done (agrees_line (length es))

@@ -1,8 +1,7 @@
--- One text of a shape's measures, and those of small shapes.
-use Rattle.std.proofs.Common.{◌≡◌, ◌<◌, ℕ, true, false, refl, sym, ◌∙◌, ap, subst, inl, inr, arith}
+-- The measures of small shapes.
+use Rattle.std.proofs.Common.{◌≡◌, ◌<◌, ℕ, true, false, refl, ◌∙◌, ap, subst, inl, inr, arith}
 use Rattle.std.proofs.lemmas.Bool.{false≢true, both_ways, cases_Bool}
-use Rattle.std.proofs.lemmas.Bool.Decides.{same_from_decides}
-use Rattle.std.specs.Prelude.{IsTrue, codes, length}
+use Rattle.std.specs.Prelude.{IsTrue, codes}
 use Rattle.std.specs.Fmt.{digits}
 use Rattle.tri_lattice.specs.declared.node.Node.{Node}
 use Rattle.tri_lattice.specs.Lattice.{step, node_eq}
@@ -17,15 +16,8 @@ use Rattle.shape_checks.specs.Hexagons.{IsHexagon}
 use Rattle.shape_checks.specs.Laws.{HexagonsAreConnected, OneAloneIsHexagon}
 use Rattle.small_worlds.specs.Rows.{row_area, row_frame, node, bot_in_row}
 use Rattle.small_worlds.proofs.Rows.{is_area}
-use Rattle.commands.specs.Measure.{IsMeasureText, measure_text}
-use Rattle.commands.specs.ReportLaws.{MeasureTextIsOne}
+use Rattle.document_answers.specs.Measure.{IsMeasureText}
 use Rattle.commands.specs.WorkExamples.{second_spread, nobody, one_alone, two_apart}
-
-pub measure_text_is_one : MeasureTextIsOne
-measure_text_is_one c text other x y =
-    let connected = same_from_decides x.connected y.connected x.is_connected y.is_connected in
-    let hexagon = same_from_decides x.hexagon y.hexagon x.is_hexagon y.is_hexagon in
-    x.whole ∙ (λ i. measure_text (length c.bots) (connected i) (hexagon i)) ∙ sym y.whole
 
 pub nobody_is_measured : IsMeasureText nobody (codes "bots 0\nconnected yes\nhexagon no\n")
 unfolding digits

@@ -17,14 +17,15 @@ use Rattle.shape_files.specs.Documents.{Contents, HasContents}
 use Rattle.commands.specs.declared.words.Command.TheVariants.{Document}
 use Rattle.commands.specs.declared.words.DocumentCommand.{DocumentCommand}
 use Rattle.commands.specs.declared.words.DocumentCommand.TheVariants.{Run, Interleave, Replay, Check, Measure, Renew, Rewind, Rounds, Elect, Tickets}
-use Rattle.commands.specs.declared.status.Status.{Status}
-use Rattle.commands.specs.declared.status.Status.TheVariants as status
+use Rattle.document_answers.specs.declared.status.Status.{Status}
+use Rattle.document_answers.specs.declared.status.Status.TheVariants as status
 use Rattle.commands.specs.Commands.{IsDocumentOf, MakesTurns, no_maker, row_of}
-use Rattle.commands.specs.Lines.{refusal_line, no_such_place, not_erosion, bad_start}
-use Rattle.commands.specs.Journals.{agreeing, differing, differs_line, DocumentRecord, EntriesOutcome, JournalOutcome, in_full, in_plain}
-use Rattle.commands.specs.Reports.{DocumentLists, reported, report_text}
-use Rattle.commands.specs.Texts.{TextOutcome, written}
-use Rattle.commands.specs.Rewind.{no_place, unwound, not_unwound}
+use Rattle.document_answers.specs.Answers.{refusal_line}
+use Rattle.document_answers.specs.Rewind.{no_such_place, no_place, unwound, not_unwound}
+use Rattle.commands.specs.Lines.{not_erosion, bad_start}
+use Rattle.document_answers.specs.Journals.{agreeing, differing, differs_line, DocumentRecord, EntriesOutcome, JournalOutcome, in_full, in_plain}
+use Rattle.document_answers.specs.Reports.{DocumentLists, reported, report_text}
+use Rattle.document_answers.specs.Texts.{TextOutcome, written}
 use Rattle.commands.specs.Elect.{no_erosion, not_ready, begun}
 use Rattle.commands.specs.Outcomes.{IsOutcome}
 use Rattle.commands.proofs.Interleaved.{interleaves_are_runs}

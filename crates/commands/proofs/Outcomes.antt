@@ -15,10 +15,10 @@ use Rattle.shape_files.specs.LeastVersions.{DecidedFromEach}
 use Rattle.run_sample.specs.Laws.{SampleIsFit}
 use Rattle.commands.specs.declared.words.Command.TheVariants.{Document}
 use Rattle.commands.specs.declared.words.DocumentCommand.{DocumentCommand}
-use Rattle.commands.specs.declared.status.Status.{Status}
-use Rattle.commands.specs.declared.status.Status.TheVariants as status
+use Rattle.document_answers.specs.declared.status.Status.{Status}
+use Rattle.document_answers.specs.declared.status.Status.TheVariants as status
 use Rattle.commands.specs.Commands.{IsDocumentOf, MakesTurns, NeedsWorkers, row_of}
-use Rattle.commands.specs.Reports.{DocumentLists, report_text}
+use Rattle.document_answers.specs.Reports.{DocumentLists, report_text}
 use Rattle.commands.specs.ReportLaws.{GoodStaysConnected}
 use Rattle.commands.specs.Run.{IsRunReport}
 use Rattle.commands.specs.Outcomes.{IsOutcome}

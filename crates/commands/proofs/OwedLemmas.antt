@@ -27,20 +27,21 @@ use Rattle.shape_files.specs.Fitting.{FitTogether, DocumentsFit}
 use Rattle.election_law.specs.Elections.{IsErosion, IsReadyStart}
 use Rattle.run_sample.specs.Laws.{SampleIsFit}
 use Rattle.commands.specs.Run.{IsRunReport}
-use Rattle.commands.specs.Interleave.{IsInterleaveReport}
+use Rattle.document_answers.specs.Interleave.{IsInterleaveReport}
 use Rattle.commands.specs.Elect.{no_erosion, not_ready, ElectOutcome, elected_text, begun}
-use Rattle.commands.specs.Rounds.{rounds_text, IsRoundsText}
-use Rattle.commands.specs.Replay.{agrees_line}
-use Rattle.commands.specs.Renew.{renewed_text}
-use Rattle.commands.specs.Reports.{report_text, DocumentLists, reported}
-use Rattle.commands.specs.Check.{check_text}
-use Rattle.commands.specs.Measure.{IsMeasureText}
-use Rattle.commands.specs.ReportLaws.{GoodStaysConnected, RunReportIsOne, InterleaveReportIsOne, ReplayIsDecided, MeasureTextIsOne, SameReport}
+use Rattle.document_answers.specs.Rounds.{rounds_text, IsRoundsText}
+use Rattle.document_answers.specs.Replay.{agrees_line}
+use Rattle.document_answers.specs.Renew.{renewed_text}
+use Rattle.document_answers.specs.Reports.{report_text, DocumentLists, reported}
+use Rattle.document_answers.specs.Check.{check_text}
+use Rattle.document_answers.specs.Measure.{IsMeasureText}
+use Rattle.commands.specs.ReportLaws.{GoodStaysConnected, RunReportIsOne}
+use Rattle.document_answers.specs.AnswerLaws.{InterleaveReportIsOne, ReplayIsDecided, MeasureTextIsOne, SameReport}
 use Rattle.commands.specs.declared.words.Command.TheVariants.{Document}
 use Rattle.commands.specs.declared.words.DocumentCommand.{DocumentCommand}
-use Rattle.commands.specs.declared.status.Status.{Status}
-use Rattle.commands.specs.declared.status.Status.TheVariants as status
-use Rattle.commands.specs.Lines.{refusal_line}
+use Rattle.document_answers.specs.declared.status.Status.{Status}
+use Rattle.document_answers.specs.declared.status.Status.TheVariants as status
+use Rattle.document_answers.specs.Answers.{refusal_line}
 use Rattle.commands.specs.Outcomes.{IsOutcome}
 use Rattle.commands.specs.Commands.{form_of, least_for, IsDocumentOf, IsDocumentFaultOf}
 use Rattle.commands.specs.Owed.{usage, read_fault, longer, refused, served, shown, sampled}
@@ -48,9 +49,9 @@ use Rattle.commands.specs.Reads.{whole}
 use Rattle.commands.specs.Laws.{SameOwed, OwedIsOne}
 use Rattle.commands.proofs.CommandDocuments.{of_form}
 use Rattle.commands.proofs.SampleLemmas.{text_is_six_lines}
-use Rattle.commands.specs.Journals.{differs_line, Agrees, DocumentRecord, JournalOutcome}
-use Rattle.commands.specs.Rewind.{no_place, unwound, not_unwound, RewindOutcome}
-use Rattle.commands.specs.Texts.{written}
+use Rattle.document_answers.specs.Journals.{differs_line, Agrees, DocumentRecord, JournalOutcome}
+use Rattle.document_answers.specs.Rewind.{no_place, unwound, not_unwound, RewindOutcome}
+use Rattle.document_answers.specs.Texts.{written}
 use Rattle.commands.specs.declared.words.DocumentCommand.TheVariants.{Run, Interleave, Replay, Check, Measure, Renew, Rewind, Rounds, Elect, Tickets}
 use Rattle.commands.proofs.JournalLemmas.{JournalRules, SameEnd, one_journal, one_record}
 

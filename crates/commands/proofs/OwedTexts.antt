@@ -1,32 +1,26 @@
 -- What the commands answer is what they owe.
-use Rattle.std.proofs.Common.{◌≡◌, ◌<◌, ℕ, false, List, length, Option, Some, sym, subst, ap, ◌∙◌, Result}
-use Rattle.std.specs.Prelude.{IsSome, IfSome, IfOk}
+use Rattle.std.proofs.Common.{◌≡◌, ◌<◌, ℕ, false, List, length, Option, Some, sym, subst, ap, ◌∙◌}
+use Rattle.std.specs.Prelude.{IsSome, IfSome}
 use Rattle.std.specs.List.{All}
 use Rattle.text_tokens.specs.declared.refusal.Refusal.{Refusal}
 use Rattle.amoebot_state.specs.Configs.{Config, bot_at}
-use Rattle.claim_core.specs.declared.report.Report.{Report}
 use Rattle.claim_core.specs.Turns.{CallerLists, HaveBots}
 use Rattle.shape_files.specs.Documents.{Contents, bots_of}
 use Rattle.shape_files.specs.Fitting.{FitTogether}
 use Rattle.shipped_programs.specs.declared.shipped.Shipped.{Shipped}
 use Rattle.commands.specs.declared.words.Command.TheVariants.{Show}
 use Rattle.commands.specs.declared.words.DocumentCommand.{DocumentCommand}
-use Rattle.commands.specs.declared.answer.Answer.{Answer}
-use Rattle.commands.specs.declared.answer.Task.TheVariants as task
-use Rattle.commands.specs.declared.status.Status.TheVariants as status
+use Rattle.document_answers.specs.declared.answer.Answer.{Answer}
+use Rattle.commands.specs.declared.tasks.Task.TheVariants as task
+use Rattle.document_answers.specs.declared.status.Status.TheVariants as status
 use Rattle.commands.specs.Commands.{IsDocumentFaultOf, row_of}
 use Rattle.commands.proofs.TurnMakers.{has_none, has_workers}
 use Rattle.commands.specs.Reads.{nothing}
-use Rattle.commands.specs.Journals.{DocumentRecord}
 use Rattle.commands.specs.Owed.{IsOwed, refused, served, shown}
-use Rattle.commands.specs.Answers.{IsTaskOf, IsAnswerOf, with_text, IsTaskTo}
+use Rattle.commands.specs.Tasks.{IsTaskOf, IsTaskTo}
+use Rattle.document_answers.specs.Answers.{IsAnswerOf, with_text, refusal_line}
 use Rattle.commands.specs.Show.{show_text}
-use Rattle.commands.specs.Lines.{refusal_line}
-use Rattle.commands.specs.declared.recorded.Recorded.{Recorded}
-use Rattle.commands.specs.Recorded.{IsRecordOf}
-use Rattle.commands.specs.declared.status.Status.{Status}
 use Rattle.commands.specs.Outcomes.{IsOutcome}
-use Rattle.std.proofs.lemmas.Result.{IfOk-weaker}
 
 pub refuses : (c : DocumentCommand) (bytes : List ℕ) (r : Refusal) (answer : Answer) → IsDocumentFaultOf c bytes r → answer ≡ with_text (status.Refused r) (refusal_line r) → IsTaskOf c bytes (task.Answered answer)
 refuses c bytes r answer fault is = subst (λ (x : Answer). IsTaskOf c bytes (task.Answered x)) (sym is) (refused c bytes r fault, λ run done. cc)
@@ -42,22 +36,7 @@ are_there a start lists fit its_shape its_lists no_gaps =
 pub shows : (p : Shipped) (text : List ℕ) (answer : Answer) → answer ≡ with_text status.Done text → text ≡ show_text p → IsOwed (Some (Show p)) nothing answer.status answer.report answer.text
 shows p text answer same is = subst (λ (x : Answer). IsOwed (Some (Show p)) nothing x.status x.report x.text) (sym (same ∙ ap (with_text status.Done) is)) (shown p)
 
--- an answer that is another one
-pub answers : (Outcome : Status → Option Report → List ℕ → Type 0) (one two : Answer) → one ≡ two → IsAnswerOf Outcome two → IsAnswerOf Outcome one
-answers Outcome one two same is = subst (IsAnswerOf Outcome) (sym same) is
-
-abbrev pub record_of : (a : Contents) (r : Recorded) → IsRecordOf a r → DocumentRecord a
-record_of a r is = record { program = r.runner; start = r.start; final = r.last; its_program = is.program; its_shape = is.start; its_final = is.last }
-
 -- what a command answers that needs no workers is its task
 pub serves : (c d : DocumentCommand) (a : Contents) (answer : Answer) → d ≡ c → has_workers (row_of c).maker ≡ false → IsAnswerOf (IsOutcome a c) answer → IsTaskTo d a (task.Answered answer)
 serves c d a answer same without is = subst (λ (e : DocumentCommand). IsTaskTo e a (task.Answered answer)) (sym same)
     (λ bytes h. (served c bytes a answer.status answer.report answer.text h is, λ needs. absurd (has_none (row_of c).maker without needs)))
-
--- where it is that for each answer that is left
-pub ok_answers : {X : Type 0} (Outcome : Status → Option Report → List ℕ → Type 0) (r : Result Answer X) (one : Answer) → IsAnswerOf Outcome one → IfOk r (λ (a : Answer). a ≡ one) → IfOk r (IsAnswerOf Outcome)
-ok_answers Outcome r one is ok = IfOk-weaker r (λ (a : Answer). a ≡ one) (IsAnswerOf Outcome) (λ answer same. answers Outcome answer one same is) ok
-
--- the line of a refusal that is another one
-pub refused_with : {X : Type 0} (r : Result Answer X) (one two : Refusal) → one ≡ two → IfOk r (λ (a : Answer). a ≡ with_text (status.Refused one) (refusal_line one)) → IfOk r (λ (a : Answer). a ≡ with_text (status.Refused two) (refusal_line two))
-refused_with r one two same ok = subst (λ (x : Refusal). IfOk r (λ (a : Answer). a ≡ with_text (status.Refused x) (refusal_line x))) same ok

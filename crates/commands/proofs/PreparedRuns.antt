@@ -1,10 +1,8 @@
 -- What is prepared for workers, and the texts of their reports.
-use Rattle.std.proofs.Common.{◌≡◌, ◌≤◌, ◌*◌, ℕ, Bool, true, false, List, length, Some, Result, refl, ap, sym, subst, arith}
-use Rattle.std.specs.Prelude.{◌&&◌, IfOk, IsSome}
-use Rattle.std.proofs.lemmas.Bool.{leb-true}
+use Rattle.std.proofs.Common.{◌≡◌, ◌≤◌, ◌*◌, ℕ, List, length, Some, refl, ap, sym, subst, arith}
+use Rattle.std.specs.Prelude.{IsSome}
 use Rattle.std.specs.List.{All}
 use Rattle.amoebot_state.specs.Configs.{Config, bot_at}
-use Rattle.amoebot_state.specs.Limits.{most_vars}
 use Rattle.serial_model.specs.Replays.{AreCountable}
 use Rattle.claim_core.specs.declared.report.Report.{Report}
 use Rattle.claim_core.specs.Turns.{CallerLists}
@@ -13,28 +11,28 @@ use Rattle.claim_core.specs.Laws.{OneListIsSerial}
 use Rattle.claim_core.specs.Machine.{Setup, setup}
 use Rattle.claim_core.specs.Reached.{Reached}
 use Rattle.action_tree.specs.Trees.{Program}
-use Rattle.action_tree.specs.Writable.{is_writable}
 use Rattle.action_meaning.specs.Verdicts.{verdict_shown}
 use Rattle.shape_files.specs.Documents.{Contents}
 use Rattle.run_sample.specs.Callers.{sample_lists}
 use Rattle.run_sample.specs.Laws.{SampleIsFit}
 use Rattle.run_sample.specs.Whole.{IsSample}
 use Rattle.commands.specs.ReportLaws.{GoodIsFew}
-use Rattle.commands.specs.Reports.{report_text, reported}
+use Rattle.document_answers.specs.Reports.{report_text, reported}
 use Rattle.commands.specs.Sample.{IsSampleText}
 use Rattle.commands.specs.declared.words.Command.TheVariants.{Document, Sample}
 use Rattle.commands.specs.declared.words.DocumentCommand.TheVariants.{Run, Tickets}
-use Rattle.commands.specs.declared.answer.Answer.{Answer}
-use Rattle.commands.specs.declared.answer.Maker.{Maker}
-use Rattle.commands.specs.declared.answer.Maker.TheVariants as maker
-use Rattle.commands.specs.declared.answer.Prepared.{Prepared}
-use Rattle.commands.specs.declared.answer.Telling.{Telling}
-use Rattle.commands.specs.declared.answer.Telling.TheVariants as telling
-use Rattle.commands.specs.declared.status.Status.TheVariants as status
+use Rattle.document_answers.specs.declared.answer.Answer.{Answer}
+use Rattle.commands.specs.declared.prepared.Maker.{Maker}
+use Rattle.commands.specs.declared.prepared.Maker.TheVariants as maker
+use Rattle.commands.specs.declared.prepared.Prepared.{Prepared}
+use Rattle.commands.specs.declared.prepared.Telling.{Telling}
+use Rattle.commands.specs.declared.prepared.Telling.TheVariants as telling
+use Rattle.document_answers.specs.declared.status.Status.TheVariants as status
 use Rattle.commands.specs.Commands.{IsDocumentOf}
 use Rattle.commands.specs.Reads.{nothing, whole}
 use Rattle.commands.specs.Owed.{IsOwed, served, sampled}
-use Rattle.commands.specs.Answers.{IsCounted, IsPrepared, IsRunFor, ReachedBy, TellsReport, Tells, of_document, of_number, turn_maker, with_report}
+use Rattle.commands.specs.Tasks.{IsCounted, IsPrepared, IsRunFor, ReachedBy, TellsReport, Tells, of_document, of_number, turn_maker}
+use Rattle.document_answers.specs.Answers.{with_report}
 
 -- what workers leave, an interleaving gives
 reached_by : (m : Maker) (g : Setup) (report : Report) → m ≡ maker.Workers → ReachedBy m g report → Reached g report
@@ -106,18 +104,6 @@ prepares_sample fit law seed run is its_telling its_maker = record {
 }
 
 -- ---- the text of a report
-
--- a program that can be written has few variables
-left_of : (a b : Bool) → (a && b) ≡ true → a ≡ true
-left_of true b e = refl
-left_of false b e = e
-
-pub few_vars : (p : Program) → is_writable p ≡ true → length p.vars ≤ most_vars
-few_vars p f = leb-true (length p.vars) most_vars (left_of _ _ (left_of _ _ (left_of _ _ f)))
-
--- with another name for their number
-pub with_report_of : {E : Type 0} (version vars number : ℕ) (report : Report) (r : Result Answer E) → vars ≡ number → IfOk r (λ (a : Answer). a ≡ with_report version vars report) → IfOk r (λ (a : Answer). a ≡ with_report version number report)
-with_report_of version vars number report r e ok = subst (λ (v : ℕ). IfOk r (λ (a : Answer). a ≡ with_report version v report)) e ok
 
 -- an answer with the report's own text tells it
 pub report_told : (version : ℕ) (p : Program) (lists : CallerLists) (report : Report) (t : Telling) (answer : Answer) → t ≡ telling.Report version → answer ≡ with_report version (length p.vars) report → TellsReport t p lists report answer

@@ -34,9 +34,9 @@ use Rattle.shape_files.specs.Documents.{Contents, actions_of, bots_of, HasConten
 use Rattle.shape_files.specs.LeastVersions.{DecidedFromEach}
 use Rattle.shape_files.specs.Fitting.{AreEntriesOf, DocumentsAreSound, DocumentsFit, FitTogether, IsSoundDocument, IsWorldShape, IsWritableProgram}
 use Rattle.shape_files.specs.WholeTexts.{DocumentsReadBack, HasBareContents, IsWritableDocument, IsWritableShape, bare_contents, document_text}
-use Rattle.commands.specs.Renew.{renewed_text}
+use Rattle.document_answers.specs.Renew.{renewed_text}
 use Rattle.commands.specs.declared.words.DocumentCommand.TheVariants.{Renew}
-use Rattle.commands.specs.declared.status.Status.TheVariants as status
+use Rattle.document_answers.specs.declared.status.Status.TheVariants as status
 use Rattle.commands.specs.Reads.{whole}
 use Rattle.commands.specs.Outcomes.{IsOutcome}
 use Rattle.commands.specs.Owed.{served}
@@ -45,8 +45,9 @@ use Rattle.commands.proofs.DocumentWorlds.{drawn, may}
 use Rattle.commands.proofs.Entries.{IsNumbered, all_keep_limits}
 use Rattle.commands.proofs.Outcomes.{documents_have_outcomes}
 use Rattle.commands.proofs.Worlds.{MayRun, is_writable, maxes_are}
-use Rattle.commands.specs.Journals.{DocumentRecord, TellsEntries}
-use Rattle.commands.proofs.JournalLemmas.{JournalAgrees, agreeing_journal, done_journal, ends_as_replay, replay_agrees, IsRenewedText}
+use Rattle.document_answers.specs.Journals.{DocumentRecord, TellsEntries}
+use Rattle.commands.proofs.JournalLemmas.{JournalAgrees, agreeing_journal, done_journal, ends_as_replay, replay_agrees}
+use Rattle.document_answers.proofs.JournalAnswers.{IsRenewedText}
 
 -- what the laws of lower crates say
 pub record RenewRules : Type 0 where

@@ -24,11 +24,11 @@ use Rattle.shape_files.specs.declared.section_kind.Form.TheVariants as form
 use Rattle.shape_files.specs.Documents.{Contents, var_count, actions_of, maxes_in, bots_of, HasContents}
 use Rattle.shape_files.specs.RunTexts.{run_text, recorded_with, KeepsRunLimits, EndsLine, RunsAreReplayed}
 use Rattle.shape_files.specs.Fitting.{FitTogether, DocumentsAreSound, DocumentsFit, IsSoundDocument, IsWorldShape}
-use Rattle.commands.specs.Reports.{report_text, reported}
+use Rattle.document_answers.specs.Reports.{report_text, reported}
 use Rattle.commands.specs.ReportLaws.{GoodIsFew}
 use Rattle.commands.specs.declared.words.DocumentCommand.{DocumentCommand}
 use Rattle.commands.specs.declared.words.DocumentCommand.TheVariants.{Interleave}
-use Rattle.commands.specs.declared.status.Status.TheVariants as status
+use Rattle.document_answers.specs.declared.status.Status.TheVariants as status
 use Rattle.commands.specs.Commands.{IsDocumentOf}
 use Rattle.commands.specs.Outcomes.{IsOutcome}
 use Rattle.commands.specs.Owed.{served}
@@ -39,10 +39,10 @@ use Rattle.commands.proofs.DocumentWorlds.{drawn, may, start_walls}
 use Rattle.commands.proofs.Entries.{IsNumbered, listed_numbered, all_keep_limits}
 use Rattle.commands.proofs.MarkLemmas.{few_callers, marks_writable}
 use Rattle.commands.proofs.Interleaved.{interleaves_are_runs}
-use Rattle.commands.specs.Journals.{TellsEntries}
+use Rattle.document_answers.specs.Journals.{TellsEntries}
 use Rattle.commands.proofs.JournalLemmas.{replay_agrees}
 use Rattle.commands.proofs.OutcomeEnds.{IsEndOf, reports, end_of}
-use Rattle.commands.specs.declared.status.Status.TheVariants.{Done}
+use Rattle.document_answers.specs.declared.status.Status.TheVariants.{Done}
 
 -- what the laws of lower crates say
 pub record Laws : Type 0 where

@@ -9,9 +9,9 @@ use Rattle.shape_files.specs.Fitting.{DocumentsAreSound, IsWorldShape}
 use Rattle.shape_files.specs.LeastVersions.{LaterIsDocument}
 use Rattle.shape_text.specs.Texts.{shape_text}
 use Rattle.commands.specs.declared.words.DocumentCommand.TheVariants.{Rewind}
-use Rattle.commands.specs.declared.status.Status.TheVariants as status
+use Rattle.document_answers.specs.declared.status.Status.TheVariants as status
 use Rattle.commands.specs.Owed.{served}
-use Rattle.commands.specs.Rewind.{unwound}
+use Rattle.document_answers.specs.Rewind.{unwound}
 use Rattle.commands.specs.RewindLaws.{RewindUndoesReplay}
 use Rattle.commands.proofs.CommandDocuments.{of_form}
 

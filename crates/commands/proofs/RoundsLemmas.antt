@@ -8,8 +8,8 @@ use Rattle.action_meaning.specs.Verdicts.{verdict_shown}
 use Rattle.shape_files.specs.declared.section_kind.Form.TheVariants as form
 use Rattle.shape_files.specs.Documents.{Contents}
 use Rattle.shape_files.specs.Fitting.{DocumentsAreSound, IsWorldShape}
-use Rattle.commands.specs.Journals.{Agrees, DocumentRecord}
-use Rattle.commands.specs.Rounds.{IsRoundsText, rounds_text}
+use Rattle.document_answers.specs.Journals.{Agrees, DocumentRecord}
+use Rattle.document_answers.specs.Rounds.{IsRoundsText, rounds_text}
 use Rattle.commands.specs.RoundsLaws.{RoundsEndAsReplay}
 use Rattle.commands.specs.declared.words.DocumentCommand.TheVariants.{Rounds}
 use Rattle.commands.proofs.JournalLemmas.{ends_as_replay}

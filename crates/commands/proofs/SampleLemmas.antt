@@ -13,7 +13,7 @@ use Rattle.action_tree.specs.Trees.{Program}
 use Rattle.action_meaning.specs.Verdicts.{verdict_shown}
 use Rattle.run_sample.specs.Laws.{SampleIsFit}
 use Rattle.commands.specs.ReportLaws.{GoodStaysConnected}
-use Rattle.commands.specs.Measure.{yes_or_no}
+use Rattle.document_answers.specs.Measure.{yes_or_no}
 use Rattle.commands.specs.Sample.{sample_text, IsTextOfSample, six_lines}
 use Rattle.commands.specs.Headline.{IsRunOfSample}
 

@@ -12,9 +12,10 @@ use Rattle.serial_model.specs.Forms.{full_entry}
 use Rattle.serial_model.proofs.Runs.{full_is_itself}
 use Rattle.claim_core.specs.declared.report.Report.{Report}
 use Rattle.claim_core.specs.Turns.{CallerLists}
-use Rattle.commands.specs.Journals.{Agrees, DiffersAt}
+use Rattle.document_answers.specs.Journals.{Agrees, DiffersAt}
 use Rattle.commands.specs.Sample.{IsSampleText, sample_text}
-use Rattle.commands.specs.ReportLaws.{ReplayIsDecided, SampleTextIsOne}
+use Rattle.document_answers.specs.AnswerLaws.{ReplayIsDecided}
+use Rattle.commands.specs.ReportLaws.{SampleTextIsOne}
 
 pub sample_text_is_one : SampleTextIsOne
 sample_text_is_one f start lists seed report text other x y =

@@ -35,33 +35,35 @@ use Rattle.shape_files.specs.Fitting.{DocumentsAreSound, DocumentsFit, Fits, Has
 use Rattle.election_law.specs.Elections.{IsErosion, IsReadyStart}
 use Rattle.election_law.specs.Laws.{ErosionOrNot, ReadyHasNone, ReadyOrUnready}
 use Rattle.run_sample.specs.Laws.{SampleIsFit, SampleIsSome}
-use Rattle.commands.specs.Check.{check_text}
+use Rattle.document_answers.specs.Check.{check_text}
 use Rattle.commands.specs.Elect.{no_erosion, not_ready, elected_text, begun}
-use Rattle.commands.specs.ReportLaws.{GoodStaysConnected, ReplayIsDecided}
-use Rattle.commands.specs.Measure.{measure_text, last_shape}
-use Rattle.commands.specs.Renew.{renewed_text}
-use Rattle.commands.specs.Replay.{agrees_line}
-use Rattle.commands.specs.Reports.{report_text, DocumentLists, reported}
-use Rattle.commands.specs.Rounds.{IsRoundsText}
+use Rattle.commands.specs.ReportLaws.{GoodStaysConnected}
+use Rattle.document_answers.specs.AnswerLaws.{ReplayIsDecided}
+use Rattle.document_answers.specs.Measure.{measure_text, last_shape}
+use Rattle.document_answers.specs.Renew.{renewed_text}
+use Rattle.document_answers.specs.Replay.{agrees_line}
+use Rattle.document_answers.specs.Reports.{report_text, DocumentLists, reported}
+use Rattle.document_answers.specs.Rounds.{IsRoundsText}
 use Rattle.commands.specs.Sample.{sample_text}
 use Rattle.commands.specs.declared.words.Command.TheVariants.{Document, Sample}
 use Rattle.commands.specs.declared.words.DocumentCommand.{DocumentCommand}
 use Rattle.commands.specs.declared.words.DocumentCommand.TheVariants.{Run, Interleave, Replay, Check, Measure, Renew, Rewind, Rounds, Elect, Tickets}
-use Rattle.commands.specs.declared.status.Status.{Status}
-use Rattle.commands.specs.declared.status.Status.TheVariants as status
-use Rattle.commands.specs.Commands.{form_of, least_for, with_old_values, IsDocumentOf}
-use Rattle.commands.specs.Lines.{read_fault_line, refusal_line, too_long, usage_line, no_such_place, not_erosion, bad_start}
+use Rattle.document_answers.specs.declared.status.Status.{Status}
+use Rattle.document_answers.specs.declared.status.Status.TheVariants as status
+use Rattle.commands.specs.Commands.{form_of, least_for, IsDocumentOf}
+use Rattle.document_answers.specs.Rewind.{with_old_values, no_such_place, no_place, unwound, not_unwound}
+use Rattle.commands.specs.Lines.{read_fault_line, too_long, usage_line, not_erosion, bad_start}
+use Rattle.document_answers.specs.Answers.{refusal_line}
 use Rattle.commands.specs.Outcomes.{IsOutcome}
 use Rattle.commands.specs.Owed.{usage, read_fault, longer, refused, served, shown, sampled}
 use Rattle.commands.specs.Reads.{nothing, whole}
 use Rattle.commands.specs.Laws.{OwedIsSome, SomethingOwed}
 use Rattle.commands.proofs.CommandDocuments.{of_form}
 use Rattle.commands.proofs.OwedTexts.{are_there}
-use Rattle.commands.specs.Journals.{differs_line, DocumentRecord, agreeing, differing, Agrees, EntriesOutcome, JournalOutcome, in_full, in_plain}
-use Rattle.commands.specs.Rewind.{no_place, unwound, not_unwound}
-use Rattle.commands.specs.Texts.{written}
+use Rattle.document_answers.specs.Journals.{differs_line, DocumentRecord, agreeing, differing, Agrees, EntriesOutcome, JournalOutcome, in_full, in_plain}
+use Rattle.document_answers.specs.Texts.{written}
 use Rattle.commands.specs.Show.{show_text}
-use Rattle.commands.proofs.JournalLemmas.{IsAgreesLine}
+use Rattle.document_answers.proofs.JournalAnswers.{IsAgreesLine}
 use Rattle.commands.proofs.RoundsLemmas.{rounds_of}
 
 -- what the laws of lower crates say

@@ -9,24 +9,25 @@ use Rattle.shape_files.specs.Documents.{Contents}
 use Rattle.shape_files.specs.LeastVersions.{DecidedFromEach}
 use Rattle.run_sample.specs.Laws.{SampleIsUnique}
 use Rattle.commands.specs.ReportLaws.{SampleTextIsOne}
-use Rattle.commands.specs.Journals.{differs_line}
+use Rattle.document_answers.specs.Journals.{differs_line}
 use Rattle.commands.specs.declared.words.Command.{Command}
 use Rattle.commands.specs.declared.words.Command.TheVariants.{Document}
 use Rattle.commands.specs.declared.words.DocumentCommand.{DocumentCommand}
-use Rattle.commands.specs.declared.answer.Answer.{Answer}
-use Rattle.commands.specs.declared.answer.Maker.{Maker}
-use Rattle.commands.specs.declared.answer.Maker.TheVariants as maker
-use Rattle.commands.specs.declared.answer.Prepared.{Prepared}
-use Rattle.commands.specs.declared.answer.Task.TheVariants as task
-use Rattle.commands.specs.declared.answer.Telling.{Telling}
-use Rattle.commands.specs.declared.answer.Telling.TheVariants as telling
-use Rattle.commands.specs.declared.status.Status.{Status}
-use Rattle.commands.specs.declared.status.Status.TheVariants as status
+use Rattle.document_answers.specs.declared.answer.Answer.{Answer}
+use Rattle.commands.specs.declared.prepared.Maker.{Maker}
+use Rattle.commands.specs.declared.prepared.Maker.TheVariants as maker
+use Rattle.commands.specs.declared.prepared.Prepared.{Prepared}
+use Rattle.commands.specs.declared.tasks.Task.TheVariants as task
+use Rattle.commands.specs.declared.prepared.Telling.{Telling}
+use Rattle.commands.specs.declared.prepared.Telling.TheVariants as telling
+use Rattle.document_answers.specs.declared.status.Status.{Status}
+use Rattle.document_answers.specs.declared.status.Status.TheVariants as status
 use Rattle.commands.specs.Commands.{NeedsWorkers, maker_of, row_of}
-use Rattle.commands.specs.Lines.{usage_line, read_fault_line, refusal_line}
+use Rattle.commands.specs.Lines.{usage_line, read_fault_line}
+use Rattle.document_answers.specs.Answers.{refusal_line}
 use Rattle.commands.specs.Reads.{Read, whole}
 use Rattle.commands.specs.Owed.{IsOwed, usage, read_fault, longer, refused, served, shown, sampled}
-use Rattle.commands.specs.Answers.{IsRunFor, IsTaskOf, Tells, of_document, of_number, turn_maker}
+use Rattle.commands.specs.Tasks.{IsRunFor, IsTaskOf, Tells, of_document, of_number, turn_maker}
 use Rattle.commands.specs.Laws.{SameIfAny, SameTask, OwedIsOne, PreparedIsOne, TaskIsOne, TellingIsOne}
 use Rattle.commands.proofs.Outcomes.{documents_have_outcomes, worked_is_done}
 use Rattle.commands.proofs.OwedLemmas.{same_contents}

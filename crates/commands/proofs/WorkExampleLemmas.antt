@@ -29,8 +29,8 @@ use Rattle.shape_checks.specs.Laws.{HexagonsAreConnected, OneAloneIsHexagon}
 use Rattle.small_worlds.specs.Rows.{node, two_beside, expanded, one_refused}
 use Rattle.small_worlds.proofs.Rows.{IsThereIn, one_id, may_run, valid, same_ids, one_has_ended, two_have_ended, reached, good}
 use Rattle.commands.specs.Run.{IsRunReport}
-use Rattle.commands.specs.Interleave.{at_round, IsScheduled}
-use Rattle.commands.specs.Journals.{DiffersAt, at_entry, at_end}
+use Rattle.document_answers.specs.Interleave.{at_round, IsScheduled}
+use Rattle.document_answers.specs.Journals.{DiffersAt, at_entry, at_end}
 use Rattle.commands.specs.Sample.{IsSampleText}
 use Rattle.commands.proofs.CountedRounds.{goes_on, one_round, plain_round}
 use Rattle.commands.proofs.Measures.{nobody_is_measured, one_is_measured, two_are_measured, spread_is_connected}

@@ -7,12 +7,11 @@ use Rattle.shape_files.specs.declared.section_kind.Form.TheVariants as form
 use Rattle.shape_files.specs.Documents.{Contents, HasContentsFrom, IsDocumentFaultFrom}
 use Rattle.shape_files.specs.Frame.{least_version}
 use Rattle.text_tokens.specs.declared.refusal.Refusal.{Refusal}
+use Rattle.document_answers.specs.Rewind.{with_old_values}
 use Rattle.commands.specs.declared.words.Command.{Command}
 use Rattle.commands.specs.declared.words.Command.TheVariants.{Document, Show, Sample}
 use Rattle.commands.specs.declared.words.DocumentCommand.{DocumentCommand}
 use Rattle.commands.specs.declared.words.DocumentCommand.TheVariants.{Run, Interleave, Replay, Check, Measure, Renew, Rewind, Rounds, Elect, Tickets}
-use Rattle.commands.specs.declared.status.Status.{Status}
-use Rattle.commands.specs.declared.status.Status.TheVariants as status
 
 -- who makes the turns of lists for a command
 pub data TurnMaker : Type 0 where
@@ -46,10 +45,6 @@ mebibyte = 1048576
 
 abbrev pub many_mebibytes : ℕ
 many_mebibytes = 134217728
-
--- the least version whose journals have old values
-abbrev pub with_old_values : ℕ
-with_old_values = 3
 
 -- a row of a command whose word stands alone, and whose document may have any version
 abbrev one_word_row : List ℕ → Form → ℕ → TurnMaker → CommandRow
@@ -126,13 +121,3 @@ IsTicketed c = maker_of c ≡ the_tickets
 -- workers make them in either way
 abbrev pub NeedsWorkers : Option Command → Type 0
 NeedsWorkers c = IsWorked c ⊎ IsTicketed c
-
--- the number with which the program ends
-abbrev pub status_number : Status → ℕ
-status_number status.Done = 0
-status_number status.Words = 2
-status_number (status.Refused refusal) = 3
-status_number status.ReadFault = 4
-status_number status.WriteFault = 5
-status_number status.NoMemory = 6
-status_number (status.Differs place) = 7

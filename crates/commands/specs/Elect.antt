@@ -9,10 +9,11 @@ use Rattle.claim_core.specs.declared.report.Report.{Report}
 use Rattle.shape_checks.specs.Values.{value_count}
 use Rattle.shape_files.specs.Documents.{Contents}
 use Rattle.election_law.specs.Elections.{IsErosion, IsReadyStart, cand_var, leader_of}
-use Rattle.commands.specs.declared.status.Status.{Status}
-use Rattle.commands.specs.declared.status.Status.TheVariants as status
-use Rattle.commands.specs.Lines.{refusal_line, not_erosion, bad_start}
-use Rattle.commands.specs.Journals.{DocumentRecord, JournalOutcome}
+use Rattle.document_answers.specs.declared.status.Status.{Status}
+use Rattle.document_answers.specs.declared.status.Status.TheVariants as status
+use Rattle.document_answers.specs.Answers.{refusal_line}
+use Rattle.commands.specs.Lines.{not_erosion, bad_start}
+use Rattle.document_answers.specs.Journals.{DocumentRecord, JournalOutcome}
 
 -- the id of the leader, if there is one
 abbrev pub leader_word : Option ℕ → List ℕ

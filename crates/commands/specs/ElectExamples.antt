@@ -13,7 +13,7 @@ use Rattle.small_worlds.specs.Rows.{row_area, bot_in_row}
 use Rattle.shipped_programs.specs.Texts.{text_of_erosion}
 use Rattle.election_law.specs.Elections.{IsReadyStart, IsElected}
 use Rattle.commands.specs.Words.{command_of}
-use Rattle.commands.specs.declared.status.Status.TheVariants as status
+use Rattle.document_answers.specs.declared.status.Status.TheVariants as status
 use Rattle.commands.specs.Lines.{bad_start}
 use Rattle.commands.specs.Owed.{IsOwed}
 use Rattle.commands.specs.Reads.{whole}

@@ -9,9 +9,9 @@ use Rattle.election_law.specs.Elections.{IsErosion, IsReadyStart, IsElected, can
 use Rattle.shape_files.specs.Documents.{Contents}
 use Rattle.commands.specs.Elect.{election_text}
 use Rattle.commands.specs.declared.words.DocumentCommand.TheVariants.{Elect}
-use Rattle.commands.specs.declared.status.Status.TheVariants as status
+use Rattle.document_answers.specs.declared.status.Status.TheVariants as status
 use Rattle.commands.specs.Commands.{IsDocumentOf}
-use Rattle.commands.specs.Journals.{Agrees, DocumentRecord, TellsEntries}
+use Rattle.document_answers.specs.Journals.{Agrees, DocumentRecord, TellsEntries}
 use Rattle.commands.specs.Reads.{whole}
 use Rattle.commands.specs.RenewLaws.{EndsAsReplay, IsOwedFor}
 

@@ -20,15 +20,16 @@ use Rattle.shape_files.specs.Documents.{Contents}
 use Rattle.shape_files.specs.DocumentRows.{program_text, turns_section, out, only_program}
 use Rattle.small_worlds.specs.Rows.{row_frame, node, bot_in_row, to_the_right}
 use Rattle.commands.specs.WorkExamples.{nobody, one_alone}
-use Rattle.commands.specs.declared.status.Status.TheVariants as status
+use Rattle.document_answers.specs.declared.status.Status.TheVariants as status
 use Rattle.commands.specs.Words.{command_of}
-use Rattle.commands.specs.Lines.{usage_line, too_long, refusal_line}
+use Rattle.commands.specs.Lines.{usage_line, too_long}
+use Rattle.document_answers.specs.Answers.{refusal_line, with_text}
 use Rattle.commands.specs.Reads.{nothing, whole, above, up_to_fault}
 use Rattle.commands.specs.Owed.{IsOwed}
-use Rattle.commands.specs.declared.answer.Task.TheVariants as task
-use Rattle.commands.specs.declared.answer.Maker.TheVariants as maker
-use Rattle.commands.specs.declared.answer.Telling.TheVariants as telling
-use Rattle.commands.specs.Answers.{IsTaskOf, with_text}
+use Rattle.commands.specs.declared.tasks.Task.TheVariants as task
+use Rattle.commands.specs.declared.prepared.Maker.TheVariants as maker
+use Rattle.commands.specs.declared.prepared.Telling.TheVariants as telling
+use Rattle.commands.specs.Tasks.{IsTaskOf}
 use Rattle.commands.specs.declared.words.DocumentCommand.TheVariants.{Run, Interleave, Tickets}
 
 -- ---- texts

@@ -13,8 +13,9 @@ use Rattle.shape_files.specs.Documents.{Contents}
 use Rattle.small_worlds.specs.Rows.{row_area, node, bot_in_row}
 use Rattle.commands.specs.WorkExamples.{nobody}
 use Rattle.commands.specs.Words.{command_of}
-use Rattle.commands.specs.declared.status.Status.TheVariants as status
-use Rattle.commands.specs.Lines.{no_such_place, not_erosion}
+use Rattle.document_answers.specs.declared.status.Status.TheVariants as status
+use Rattle.document_answers.specs.Rewind.{no_such_place}
+use Rattle.commands.specs.Lines.{not_erosion}
 use Rattle.commands.specs.Owed.{IsOwed}
 use Rattle.commands.specs.Reads.{whole}
 use Rattle.commands.specs.Examples.{with_shape, with_nobody, expansion_journal, spread_text, still_text, renewed_expansion, spread_config, expansion, and_shape, and_nobody}

@@ -16,7 +16,7 @@ use Rattle.run_sample.specs.Whole.{IsSample}
 use Rattle.shape_files.specs.Documents.{Contents}
 use Rattle.commands.specs.ReportLaws.{StaysConnectedIn}
 use Rattle.claim_core.specs.Machine.{setup}
-use Rattle.commands.specs.Reports.{report_text}
+use Rattle.document_answers.specs.Reports.{report_text}
 use Rattle.commands.specs.Run.{IsRunReport}
 use Rattle.commands.specs.declared.words.DocumentCommand.{DocumentCommand}
 use Rattle.commands.specs.Commands.{IsDocumentOf}

@@ -7,21 +7,21 @@ use Rattle.claim_core.specs.Turns.{CallerLists}
 use Rattle.action_tree.specs.Trees.{Program}
 use Rattle.shipped_programs.specs.declared.shipped.Shipped.{Shipped}
 use Rattle.shape_files.specs.Documents.{Contents}
-use Rattle.commands.specs.ReportLaws.{SameReport}
+use Rattle.document_answers.specs.AnswerLaws.{SameReport}
 use Rattle.commands.specs.declared.words.Command.{Command}
 use Rattle.commands.specs.declared.words.Command.TheVariants.{Document, Show, Sample}
 use Rattle.commands.specs.declared.words.DocumentCommand.{DocumentCommand}
-use Rattle.commands.specs.declared.answer.Answer.{Answer}
-use Rattle.commands.specs.declared.answer.Prepared.{Prepared}
-use Rattle.commands.specs.declared.answer.Task.{Task}
-use Rattle.commands.specs.declared.answer.Task.TheVariants as task
-use Rattle.commands.specs.declared.answer.Telling.{Telling}
-use Rattle.commands.specs.declared.status.Status.{Status}
-use Rattle.commands.specs.declared.status.Status.TheVariants as status
+use Rattle.document_answers.specs.declared.answer.Answer.{Answer}
+use Rattle.commands.specs.declared.prepared.Prepared.{Prepared}
+use Rattle.commands.specs.declared.tasks.Task.{Task}
+use Rattle.commands.specs.declared.tasks.Task.TheVariants as task
+use Rattle.commands.specs.declared.prepared.Telling.{Telling}
+use Rattle.document_answers.specs.declared.status.Status.{Status}
+use Rattle.document_answers.specs.declared.status.Status.TheVariants as status
 use Rattle.commands.specs.Commands.{IsDocumentOf, MakesTurns, NeedsWorkers}
 use Rattle.commands.specs.Reads.{Read, nothing, whole, above, up_to_fault}
 use Rattle.commands.specs.Owed.{IsOwed}
-use Rattle.commands.specs.Answers.{IsRunFor, IsTaskOf, TellsReport}
+use Rattle.commands.specs.Tasks.{IsRunFor, IsTaskOf, TellsReport}
 use Rattle.commands.specs.Outcomes.{IsOutcome}
 use Rattle.commands.specs.Headline.{IsRunOfDocument, IsRunOfSample}
 

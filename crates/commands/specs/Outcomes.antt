@@ -6,15 +6,15 @@ use Rattle.claim_core.specs.declared.report.Report.{Report}
 use Rattle.shape_files.specs.Documents.{Contents}
 use Rattle.commands.specs.declared.words.DocumentCommand.{DocumentCommand}
 use Rattle.commands.specs.declared.words.DocumentCommand.TheVariants.{Run, Interleave, Replay, Check, Measure, Renew, Rewind, Rounds, Elect, Tickets}
-use Rattle.commands.specs.declared.status.Status.{Status}
+use Rattle.document_answers.specs.declared.status.Status.{Status}
 use Rattle.commands.specs.Run.{RunOutcome}
-use Rattle.commands.specs.Interleave.{InterleaveOutcome}
-use Rattle.commands.specs.Replay.{ReplayOutcome}
-use Rattle.commands.specs.Check.{CheckOutcome}
-use Rattle.commands.specs.Measure.{MeasureOutcome}
-use Rattle.commands.specs.Renew.{RenewOutcome}
-use Rattle.commands.specs.Rewind.{RewindOutcome}
-use Rattle.commands.specs.Rounds.{RoundsOutcome}
+use Rattle.document_answers.specs.Interleave.{InterleaveOutcome}
+use Rattle.document_answers.specs.Replay.{ReplayOutcome}
+use Rattle.document_answers.specs.Check.{CheckOutcome}
+use Rattle.document_answers.specs.Measure.{MeasureOutcome}
+use Rattle.document_answers.specs.Renew.{RenewOutcome}
+use Rattle.document_answers.specs.Rewind.{RewindOutcome}
+use Rattle.document_answers.specs.Rounds.{RoundsOutcome}
 use Rattle.commands.specs.Elect.{ElectOutcome}
 use Rattle.commands.specs.Tickets.{TicketsOutcome}
 

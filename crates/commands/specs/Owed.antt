@@ -9,10 +9,11 @@ use Rattle.shipped_programs.specs.declared.shipped.Shipped.{Shipped}
 use Rattle.commands.specs.declared.words.Command.{Command}
 use Rattle.commands.specs.declared.words.Command.TheVariants.{Document, Show, Sample}
 use Rattle.commands.specs.declared.words.DocumentCommand.{DocumentCommand}
-use Rattle.commands.specs.declared.status.Status.{Status}
-use Rattle.commands.specs.declared.status.Status.TheVariants as status
+use Rattle.document_answers.specs.declared.status.Status.{Status}
+use Rattle.document_answers.specs.declared.status.Status.TheVariants as status
 use Rattle.commands.specs.Commands.{IsDocumentOf, IsDocumentFaultOf}
-use Rattle.commands.specs.Lines.{usage_line, read_fault_line, refusal_line, too_long}
+use Rattle.commands.specs.Lines.{usage_line, read_fault_line, too_long}
+use Rattle.document_answers.specs.Answers.{refusal_line}
 use Rattle.commands.specs.Reads.{Read, nothing, whole, above, up_to_fault}
 use Rattle.commands.specs.Outcomes.{IsOutcome}
 use Rattle.commands.specs.Sample.{IsTextOfSample}

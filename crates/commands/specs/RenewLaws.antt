@@ -5,14 +5,14 @@ use Rattle.amoebot_state.specs.declared.verdict.Entry.{Entry}
 use Rattle.shape_files.specs.declared.section_kind.Form.TheVariants as form
 use Rattle.shape_files.specs.Documents.{Contents, HasContents}
 use Rattle.shape_files.specs.WholeTexts.{HasBareContents}
-use Rattle.commands.specs.Replay.{agrees_line}
+use Rattle.document_answers.specs.Replay.{agrees_line}
 use Rattle.commands.specs.declared.words.Command.TheVariants.{Document}
 use Rattle.commands.specs.declared.words.DocumentCommand.{DocumentCommand}
 use Rattle.commands.specs.declared.words.DocumentCommand.TheVariants.{Replay, Renew}
-use Rattle.commands.specs.declared.status.Status.{Status}
-use Rattle.commands.specs.declared.status.Status.TheVariants as status
+use Rattle.document_answers.specs.declared.status.Status.{Status}
+use Rattle.document_answers.specs.declared.status.Status.TheVariants as status
 use Rattle.commands.specs.Commands.{limit_for}
-use Rattle.commands.specs.Journals.{TellsEntries}
+use Rattle.document_answers.specs.Journals.{TellsEntries}
 use Rattle.commands.specs.Owed.{IsOwed}
 use Rattle.commands.specs.Reads.{Read, whole}
 

@@ -5,11 +5,11 @@ use Rattle.claim_core.specs.declared.report.Report.{Report}
 use Rattle.shape_files.specs.declared.section_kind.Form.TheVariants as form
 use Rattle.shape_files.specs.Documents.{Contents, HasContents}
 use Rattle.shape_files.specs.RunTexts.{EndsLine, recorded_with}
-use Rattle.commands.specs.Replay.{agrees_line}
+use Rattle.document_answers.specs.Replay.{agrees_line}
 use Rattle.commands.specs.declared.words.Command.TheVariants.{Document}
 use Rattle.commands.specs.declared.words.DocumentCommand.{DocumentCommand}
 use Rattle.commands.specs.declared.words.DocumentCommand.TheVariants.{Run, Interleave, Replay, Tickets}
-use Rattle.commands.specs.declared.status.Status.TheVariants as status
+use Rattle.document_answers.specs.declared.status.Status.TheVariants as status
 use Rattle.commands.specs.Reads.{whole}
 use Rattle.commands.specs.Outcomes.{IsOutcome}
 use Rattle.commands.specs.Owed.{IsOwed}

@@ -9,9 +9,9 @@ use Rattle.shape_files.specs.Documents.{Contents}
 use Rattle.shape_text.specs.Texts.{shape_text}
 use Rattle.commands.specs.declared.words.Command.TheVariants.{Document}
 use Rattle.commands.specs.declared.words.DocumentCommand.TheVariants.{Rewind}
-use Rattle.commands.specs.declared.status.Status.TheVariants as status
+use Rattle.document_answers.specs.declared.status.Status.TheVariants as status
 use Rattle.commands.specs.Commands.{IsDocumentOf}
-use Rattle.commands.specs.Journals.{DocumentRecord}
+use Rattle.document_answers.specs.Journals.{DocumentRecord}
 use Rattle.commands.specs.Owed.{IsOwed}
 use Rattle.commands.specs.Reads.{whole}
 

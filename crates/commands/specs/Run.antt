@@ -12,8 +12,8 @@ use Rattle.claim_core.specs.Machine.{Setup, setup}
 use Rattle.claim_core.specs.Reached.{Reached}
 use Rattle.action_meaning.specs.Verdicts.{verdict_shown}
 use Rattle.shape_files.specs.Documents.{Contents}
-use Rattle.commands.specs.declared.status.Status.{Status}
-use Rattle.commands.specs.Reports.{DocumentLists, ReportOutcome}
+use Rattle.document_answers.specs.declared.status.Status.{Status}
+use Rattle.document_answers.specs.Reports.{DocumentLists, ReportOutcome}
 
 -- The report is a good one, and steps of one kind give it: `Reached`,
 -- or `TicketReached` where commits draw their places.

@@ -14,8 +14,8 @@ use Rattle.claim_core.specs.Reached.{Reached}
 use Rattle.action_meaning.specs.Verdicts.{verdict_shown}
 use Rattle.run_sample.specs.declared.whole.Sample.{Sample}
 use Rattle.run_sample.specs.Whole.{IsSample}
-use Rattle.commands.specs.Measure.{yes_or_no}
-use Rattle.commands.specs.Journals.{Agrees}
+use Rattle.document_answers.specs.Measure.{yes_or_no}
+use Rattle.document_answers.specs.Journals.{Agrees}
 
 abbrev pub sample_text : ℕ → ℕ → ℕ → ℕ → Bool → Bool → List ℕ
 sample_text seed bots callers turns connected agrees = lines_text (

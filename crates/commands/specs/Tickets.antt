@@ -5,8 +5,8 @@ use Rattle.claim_core.specs.declared.report.Report.{Report}
 use Rattle.claim_core.specs.Tickets.{TicketReached}
 use Rattle.action_meaning.specs.Verdicts.{verdict_shown}
 use Rattle.shape_files.specs.Documents.{Contents}
-use Rattle.commands.specs.declared.status.Status.{Status}
-use Rattle.commands.specs.Reports.{DocumentLists, ReportOutcome}
+use Rattle.document_answers.specs.declared.status.Status.{Status}
+use Rattle.document_answers.specs.Reports.{DocumentLists, ReportOutcome}
 use Rattle.commands.specs.Run.{IsRunReport}
 
 -- the report is one of a run of the document's lists, which steps of callers give

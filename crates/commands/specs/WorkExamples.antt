@@ -17,17 +17,17 @@ use Rattle.claim_core.specs.Turns.{CallerLists}
 use Rattle.round_meter.specs.Meters.{Metered, GoesOnIn, waiting_of}
 use Rattle.small_worlds.specs.Rows.{node, row_frame, row_with, bot_in_row, two_beside, expanded, one_refused}
 use Rattle.action_print.specs.Pins.{counting}
-use Rattle.commands.specs.Check.{check_text}
+use Rattle.document_answers.specs.Check.{check_text}
 use Rattle.commands.specs.Elect.{election_text}
-use Rattle.commands.specs.Reports.{report_text}
+use Rattle.document_answers.specs.Reports.{report_text}
 use Rattle.commands.specs.Run.{IsRunReport}
-use Rattle.commands.specs.Interleave.{IsInterleaveReport}
-use Rattle.commands.specs.Renew.{renewed_text}
-use Rattle.commands.specs.Replay.{agrees_line}
-use Rattle.commands.specs.Measure.{IsMeasureText}
-use Rattle.commands.specs.Rounds.{AgreesInRounds, CountedIn, rounds_text}
+use Rattle.document_answers.specs.Interleave.{IsInterleaveReport}
+use Rattle.document_answers.specs.Renew.{renewed_text}
+use Rattle.document_answers.specs.Replay.{agrees_line}
+use Rattle.document_answers.specs.Measure.{IsMeasureText}
+use Rattle.document_answers.specs.Rounds.{AgreesInRounds, CountedIn, rounds_text}
 use Rattle.commands.specs.Sample.{IsSampleText}
-use Rattle.commands.specs.Journals.{Agrees, AgreesIn, DiffersAt, differs_line}
+use Rattle.document_answers.specs.Journals.{Agrees, AgreesIn, DiffersAt, differs_line}
 
 -- the shape at the start, and the one in which the second amoebot has expanded
 abbrev pub start : Config

@@ -7,19 +7,18 @@ ghost use Rattle.shape_checks.specs.Values.{value_count};
 ghost use Rattle.action_meaning.specs.Verdicts.{verdict_shown};
 ghost use Rattle.election_law.specs.Elections.{cand_var, leader_of};
 ghost use Rattle.shape_files.specs.{Fitting.{Fits}, Views.{contents}};
-ghost use Rattle.commands.specs.Journals.{AgreesIn, DiffersAt, EntriesOutcome, differs_line};
-ghost use Rattle.commands.specs.{Commands.{form_of}, Lines.{bad_start, refusal_line}};
+ghost use Rattle.document_answers.specs.Journals.{AgreesIn, DiffersAt, EntriesOutcome, differs_line};
+ghost use Rattle.document_answers.specs.Answers.{refusal_line, IsAnswerOf, with_text};
+ghost use Rattle.commands.specs.{Commands.{form_of}, Lines.{bad_start}};
 ghost use Rattle.commands.specs.Elect.{election_text, leader_word, ElectOutcome, elected_text};
 ghost use Rattle.commands.specs.ElectLaws.{ElectEndsAsReplay, ElectionsAreWon};
-ghost use Rattle.commands.specs.Answers.{IsAnswerOf, with_text};
 ghost use Rattle.text_tokens.specs.Lines.{line_text};
 
-use crate::answer::{Answer, differ, done, refuse};
-use crate::lines::{put_number, put_word};
-use crate::recorded::{Journal, Recorded, recorded_in};
-use crate::status::Status;
 use crate::words::DocumentCommand;
 use amoebot_state::{NoMemory, World};
+use document_answers::{
+    Answer, Journal, Recorded, Status, differ, done, put_number, put_word, recorded_in, refuse,
+};
 use election_law::{ElectRefusal, Election, erosion_elects, is_erosion, start_laws};
 use serial_model::{Differs, EntryForm};
 use shape_files::{Parts, documents_are_sound, least_versions_are_kept};

@@ -6,9 +6,6 @@ ghost use Rattle.commands.specs.{Laws.{ReportsAreOfTurns}, Examples.{SmallAnswer
 ghost use Rattle.commands.specs.{ExplainExamples.{SmallExplanations}, ElectExamples.{SmallElections}};
 ghost use Rattle.commands.specs.{ReportLaws.{GoodIsFew, GoodStaysConnected}, WorkExamples.{SmallCommands}};
 
-use crate::interleave::interleave_report_is_one;
-use crate::measure::measure_text_is_one;
-use crate::replay::replay_is_decided;
 use crate::run::run_report_is_one;
 use crate::sample::sample_text_is_one;
 use action_meaning::{changes_are_acts, program_runs_stay_connected};
@@ -17,6 +14,7 @@ use claim_core::{
     one_list_is_serial, reached_is_good, rounds_leave_a_report, ticket_reached_is_good,
     ticket_reached_is_reached, tickets_leave_a_report,
 };
+use document_answers::{interleave_report_is_one, measure_text_is_one, replay_is_decided};
 use election_law::{election_laws, start_laws};
 use model_ops::acts_decide;
 use rewind_log::{unwound_is_some, unwound_is_unique};

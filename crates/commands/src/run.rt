@@ -1,10 +1,10 @@
 //! The command `run`: workers are to run the lists of a document.
 
 ghost use Rattle.shape_files.specs.{Fitting.{Fits}, Views.{contents}};
-ghost use Rattle.commands.specs.{declared.answer.Task.{Task}, Answers.{IsTaskTo}, Commands.{form_of}};
+ghost use Rattle.commands.specs.{declared.tasks.Task.{Task}, Tasks.{IsTaskTo}, Commands.{form_of}};
 ghost use Rattle.commands.specs.ReportLaws.{RunReportIsOne};
 
-use crate::answer::{Maker, Prepared, Telling};
+use crate::prepared::{Maker, Prepared, Telling};
 use crate::words::DocumentCommand;
 use action_eval::Runner;
 use claim_core::{one_list_is_serial, serial_run_is_determined};

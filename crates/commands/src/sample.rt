@@ -2,21 +2,19 @@
 
 ghost use Rattle.std.specs.{Prelude.{IfOk, Some, ◌≡◌, length, ◌<◌, Decides}, List.{All}};
 ghost use Rattle.commands.specs.declared.words.Command.TheVariants.{Sample};
-ghost use Rattle.commands.specs.{Answers.{IsPrepared, IsCounted, TellsReport}, Reads.{nothing}};
-ghost use Rattle.commands.specs.{Journals.{Agrees}, Sample.{IsSampleText, sample_text}};
-ghost use Rattle.commands.specs.ReportLaws.{SampleTextIsOne};
+ghost use Rattle.commands.specs.{Tasks.{IsPrepared, IsCounted, TellsReport}, Reads.{nothing}};
+ghost use Rattle.commands.specs.{Sample.{IsSampleText, sample_text}, ReportLaws.{SampleTextIsOne}};
+ghost use Rattle.document_answers.specs.Journals.{Agrees};
 ghost use Rattle.claim_core.specs.Good.{Good};
 ghost use Rattle.action_meaning.specs.Verdicts.{verdict_shown};
 ghost use Rattle.serial_model.specs.Replays.{AreCountable};
 
-use crate::answer::{Answer, Maker, Prepared, Telling};
 use crate::laws::good_is_few;
-use crate::lines::{put_answer, put_number};
-use crate::replay::{compare, replay_is_decided};
-use crate::status::Status;
+use crate::prepared::{Maker, Prepared, Telling};
 use action_eval::Runner;
 use amoebot_state::{Decider, Entry, NoMemory};
 use claim_core::{Lists, Report};
+use document_answers::{Answer, Status, compare, put_answer, put_number, replay_is_decided};
 use run_sample::{make_sample, sample_is_fit};
 use shape_checks::is_connected;
 use std::alloc::Global;

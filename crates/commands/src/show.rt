@@ -3,9 +3,8 @@
 ghost use Rattle.std.specs.Prelude.{IfOk, Some};
 ghost use Rattle.commands.specs.{declared.words.Command.TheVariants.{Show}, Owed.{IsOwed}, Reads.{nothing}};
 
-use crate::answer::{Answer, done};
-use crate::check::print_check;
 use amoebot_state::NoMemory;
+use document_answers::{Answer, done, print_check};
 use shipped_programs::Shipped;
 use std::alloc::Global;
 

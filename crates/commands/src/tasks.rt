@@ -1,30 +1,36 @@
 //! What is to be done for a whole input of a command that reads a document.
 
 ghost use Rattle.std.specs.Prelude.{◌≤◌, IfOk};
-ghost use Rattle.text_tokens.specs.{declared.refusal.RefusalKind.TheVariants.{Trailing}, Steps.{ReadsInput}};
-ghost use Rattle.text_tokens.specs.Text.{IsCountable};
+ghost use Rattle.text_tokens.specs.declared.refusal.RefusalKind.TheVariants.{Trailing};
+ghost use Rattle.text_tokens.specs.{Steps.{ReadsInput}, Text.{IsCountable}};
 ghost use Rattle.shape_files.specs.{Documents.{IsDocumentFrom}, Fitting.{Fits}, Frame.{least_version}};
 ghost use Rattle.shape_files.specs.Views.{contents};
-ghost use Rattle.commands.specs.{Answers.{IsTaskOf, IsTaskTo}, Commands.{form_of, least_for}};
+ghost use Rattle.commands.specs.{Tasks.{IsTaskOf, IsTaskTo}, Commands.{form_of, least_for}};
 
-use crate::answer::{Task, refuse};
-use crate::check::answer_check;
 use crate::elect::answer_elect;
-use crate::interleave::answer_interleave;
-use crate::measure::answer_measure;
-use crate::renew::answer_renew;
-use crate::replay::answer_replay;
-use crate::rewind::answer_rewind;
-use crate::rounds::answer_rounds;
+use crate::prepared::Prepared;
 use crate::run::prepare;
 use crate::table::{Row, row_of};
 use crate::tickets::prepare_tickets;
 use crate::words::DocumentCommand;
 use amoebot_state::NoMemory;
+use document_answers::{
+    Answer, answer_check, answer_interleave, answer_measure, answer_renew, answer_replay,
+    answer_rewind, answer_rounds, refuse,
+};
 use outer_io::Document;
 use shape_files::{Parts, Sections, documents_fit, least_versions_are_kept, read_sections_from};
 use std::alloc::Global;
 use text_tokens::ReadRefusal;
+
+/// What is to be done for a whole input.
+#[derive(Drop)]
+pub enum Task {
+    /// It is answered.
+    Answered(Answer),
+    /// It is a document whose lists workers are to run.
+    Run(Prepared),
+}
 
 /// What is to be done for a whole input of a command. Without enough memory that is not known.
 ///

@@ -2,9 +2,9 @@
 //! and no commit waits for another.
 
 ghost use Rattle.shape_files.specs.{Fitting.{Fits}, Views.{contents}};
-ghost use Rattle.commands.specs.{declared.answer.Task.{Task}, Answers.{IsTaskTo}, Commands.{form_of}};
+ghost use Rattle.commands.specs.{declared.tasks.Task.{Task}, Tasks.{IsTaskTo}, Commands.{form_of}};
 
-use crate::answer::{Maker, Prepared};
+use crate::prepared::{Maker, Prepared};
 use crate::run::prepare;
 use crate::words::DocumentCommand;
 use claim_core::one_list_is_serial;

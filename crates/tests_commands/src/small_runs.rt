@@ -7,9 +7,10 @@ ghost use Rattle.amoebot_state.specs.Refusals.{IsBotInRange};
 
 use amoebot_state::{Bot, Decider, End, Entry, NoMemory, PlainEntry, Port, World};
 use claim_core::Report;
-use commands::{
-    RoundCount, compare, count_rounds, follow_all, print_agrees, print_differs, print_election,
-    print_report, print_rounds, run_interleaved,
+use commands::print_election;
+use document_answers::{
+    RoundCount, compare, count_rounds, follow_all, print_agrees, print_differs, print_report,
+    print_rounds, run_interleaved,
 };
 use schedule_text::{Schedule, read_schedule};
 use serial_model::Differs;

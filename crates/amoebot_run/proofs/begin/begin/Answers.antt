@@ -1,5 +1,5 @@
 use Rattle.std.proofs.Common.{Some, None, ap, refl, sym, subst, ◌∙◌}
-use Rattle.commands.specs.declared.status.Status.TheVariants as status
+use Rattle.document_answers.specs.declared.status.Status.TheVariants as status
 use Rattle.commands.specs.Commands.{ReadsNothing}
 use Rattle.commands.specs.Lines.{usage_line}
 use Rattle.commands.specs.Owed.{usage}

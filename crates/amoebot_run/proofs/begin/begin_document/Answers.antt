@@ -1,9 +1,10 @@
 use Rattle.std.proofs.Common.{ℕ, None, Err, ap, refl, subst}
 use Rattle.outer_io.specs.declared.errors.ReadError.{ReadError}
 use Rattle.outer_io.specs.Readings.{ReadsUpTo, ReadsWhole}
-use Rattle.commands.specs.declared.status.Status.TheVariants as status
-use Rattle.commands.specs.Answers.{IsTaskOf}
-use Rattle.commands.specs.Lines.{read_fault_line, refusal_line, too_long}
+use Rattle.document_answers.specs.declared.status.Status.TheVariants as status
+use Rattle.commands.specs.Tasks.{IsTaskOf}
+use Rattle.commands.specs.Lines.{read_fault_line, too_long}
+use Rattle.document_answers.specs.Answers.{refusal_line}
 use Rattle.commands.specs.Owed.{read_fault, longer}
 use Rattle.commands.specs.Reads.{whole, above, up_to_fault, some}
 use Rattle.amoebot_run.specs.Parts.{IsEndOfWriting, is_to_run}

@@ -7,13 +7,13 @@ use Rattle.amoebot_state.specs.Configs.{Config}
 use Rattle.election_law.specs.Elections.{IsErosion}
 use Rattle.election_law.specs.States.{ElectionState}
 use Rattle.shape_files.specs.Views.{contents}
-use Rattle.commands.specs.Recorded.{HasItsJournal, IsOfBots}
-use Rattle.commands.proofs.OwedTexts.{ok_answers, record_of, refused_with}
+use Rattle.document_answers.specs.Recorded.{HasItsJournal, IsOfBots}
+use Rattle.document_answers.proofs.AnswerLemmas.{ok_answers, record_of, refused_with}
 use Rattle.commands.proofs.elect.answer_elect.Goals as goal
 use Rattle.amoebot_state.specs.Steps.{plain_entry}
 use Rattle.serial_model.specs.Forms.{full_entry}
 use Rattle.commands.specs.Elect.{ElectOutcome, begun, no_erosion}
-use Rattle.commands.specs.Journals.{in_full, in_plain}
+use Rattle.document_answers.specs.Journals.{in_full, in_plain}
 use Rattle.commands.proofs.ElectLemmas.{of_began, refused_start}
 
 pub returns-then-not-is_erosion : goal.returns-then-not-is_erosion

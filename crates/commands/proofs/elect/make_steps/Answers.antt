@@ -4,8 +4,8 @@ use Rattle.amoebot_state.proofs.Options.{err_told}
 use Rattle.serial_model.specs.Replays.{IsNoStep, StepIn}
 use Rattle.action_tree.specs.Trees.{Program}
 use Rattle.action_meaning.specs.Verdicts.{verdict_shown}
-use Rattle.commands.specs.Journals.{DiffersAt, at_end}
-use Rattle.commands.proofs.ToldEntries.{told_all}
+use Rattle.document_answers.specs.Journals.{DiffersAt, at_end}
+use Rattle.document_answers.proofs.ToldEntries.{told_all}
 use Rattle.commands.proofs.ElectSteps.{made_more, stops_at}
 use Rattle.commands.proofs.elect.make_steps.Goals as goal
 

@@ -1,12 +1,12 @@
-use Rattle.commands.specs.declared.status.Status.TheVariants as status
+use Rattle.document_answers.specs.declared.status.Status.TheVariants as status
 use Rattle.std.proofs.Common.{◌≡◌, ◌≢◌, ap, ◌∙◌}
 use Rattle.std.proofs.lemmas.Result.{IfOk-weaker}
 use Rattle.election_law.specs.declared.refusal.ElectRefusal.TheVariants as refusal
-use Rattle.commands.specs.declared.answer.Answer.{Answer}
-use Rattle.commands.specs.Lines.{bad_start, refusal_line}
+use Rattle.document_answers.specs.declared.answer.Answer.{Answer}
+use Rattle.commands.specs.Lines.{bad_start}
+use Rattle.document_answers.specs.Answers.{refusal_line, with_text}
 use Rattle.commands.proofs.elect.refuse_start.Goals as goal
 use Rattle.text_tokens.specs.declared.refusal.Refusal.{Refusal}
-use Rattle.commands.specs.Answers.{with_text}
 
 pub returns-in-Some : goal.returns-in-Some
 returns-in-Some c =

@@ -1,7 +1,7 @@
 use Rattle.std.proofs.Common.{Some, refl, ap, sym, ◌∙◌}
 use Rattle.shape_files.specs.Views.{contents}
-use Rattle.commands.specs.declared.answer.Maker.TheVariants as maker
-use Rattle.commands.specs.declared.answer.Telling.TheVariants as telling
+use Rattle.commands.specs.declared.prepared.Maker.TheVariants as maker
+use Rattle.commands.specs.declared.prepared.Telling.TheVariants as telling
 use Rattle.commands.proofs.OwedTexts.{are_there}
 use Rattle.commands.proofs.PreparedRuns.{prepares}
 use Rattle.commands.proofs.run.prepare.Goals as goal

@@ -1,5 +1,5 @@
-use Rattle.commands.specs.ReportLaws.{SameReport}
-use Rattle.commands.proofs.Reported.{same_text}
+use Rattle.document_answers.specs.AnswerLaws.{SameReport}
+use Rattle.document_answers.proofs.Reported.{same_text}
 use Rattle.commands.proofs.run.run_report_is_one.Goals as goal
 
 pub returns : goal.returns

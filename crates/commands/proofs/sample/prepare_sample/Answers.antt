@@ -1,8 +1,8 @@
 use Rattle.std.proofs.Common.{refl, subst, sym}
 use Rattle.action_tree.specs.Trees.{Program}
 use Rattle.run_sample.specs.Whole.{IsSample}
-use Rattle.commands.specs.declared.answer.Maker.TheVariants as maker
-use Rattle.commands.specs.declared.answer.Telling.TheVariants as telling
+use Rattle.commands.specs.declared.prepared.Maker.TheVariants as maker
+use Rattle.commands.specs.declared.prepared.Telling.TheVariants as telling
 use Rattle.commands.proofs.PreparedRuns.{prepares_sample}
 use Rattle.commands.proofs.sample.prepare_sample.Goals as goal
 

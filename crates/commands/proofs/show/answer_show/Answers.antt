@@ -1,5 +1,5 @@
 use Rattle.std.proofs.Common.{ap, ◌∙◌}
-use Rattle.commands.specs.Check.{check_text}
+use Rattle.document_answers.specs.Check.{check_text}
 use Rattle.commands.proofs.OwedTexts.{shows}
 use Rattle.commands.proofs.show.answer_show.Goals as goal
 

@@ -1,8 +1,8 @@
 use Rattle.std.proofs.Common.{refl, sym, subst}
 use Rattle.shape_files.specs.Views.{contents}
-use Rattle.commands.specs.declared.answer.Task.TheVariants as task
+use Rattle.commands.specs.declared.tasks.Task.TheVariants as task
 use Rattle.commands.specs.declared.words.DocumentCommand.{DocumentCommand}
-use Rattle.commands.specs.Answers.{IsTaskTo}
+use Rattle.commands.specs.Tasks.{IsTaskTo}
 use Rattle.commands.specs.declared.words.DocumentCommand.TheVariants.{Interleave, Replay, Check, Measure, Renew, Rewind, Rounds, Elect}
 use Rattle.commands.proofs.OwedTexts.{serves}
 use Rattle.commands.proofs.tasks.task_of_document.Goals as goal

@@ -1,5 +1,0 @@
-use Rattle.commands.proofs.Canonical.{canon_means_the_same}
-use Rattle.commands.proofs.check.canon_means_the_same.Goals as goal
-
-pub returns : goal.returns
-returns c = canon_means_the_same

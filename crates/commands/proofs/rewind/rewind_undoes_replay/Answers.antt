@@ -1,5 +1,0 @@
-use Rattle.commands.proofs.RewindLemmas.{rewind_undoes_replay}
-use Rattle.commands.proofs.rewind.rewind_undoes_replay.Goals as goal
-
-pub returns : goal.returns
-returns c = rewind_undoes_replay c.least_versions_are_kept.ensures.document c.documents_are_sound.ensures

@@ -1,5 +1,0 @@
-use Rattle.commands.proofs.RoundsDecided.{rounds_are_decided}
-use Rattle.commands.proofs.rounds.rounds_are_decided.Goals as goal
-
-pub returns : goal.returns
-returns g c = rounds_are_decided g.met.E.EntryForm.is_form c.rounds_are_unique.ensures c.each_run_is_rounded.ensures c.plain_run_is_unique.ensures

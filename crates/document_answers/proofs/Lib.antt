@@ -1,0 +1,14 @@
+pub mod AnswerLemmas
+pub mod Canonical
+pub mod Interleavings
+pub mod JournalAnswers
+pub mod MeasureTexts
+pub mod RecordedLemmas
+pub mod RenewedTexts
+pub mod Replays
+pub mod ReportTexts
+pub mod Reported
+pub mod RoundsDecided
+pub mod SameConfigs
+pub mod Scheduled
+pub mod ToldEntries

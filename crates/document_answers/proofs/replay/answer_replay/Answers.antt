@@ -1,0 +1,22 @@
+use Rattle.std.proofs.Common.{◌≡◌, Some, ap, sym, subst, ◌∙◌}
+use Rattle.shape_files.specs.Views.{contents}
+use Rattle.document_answers.specs.Recorded.{HasItsJournal}
+use Rattle.document_answers.proofs.AnswerLemmas.{record_of}
+use Rattle.document_answers.proofs.replay.answer_replay.Goals as goal
+use Rattle.document_answers.proofs.JournalAnswers.{IsAgreesLine, of_full, of_plain}
+
+pub returns-in-Full : goal.returns-in-Full
+returns-in-Full c =
+    let a = contents c.args.parts in
+    let r = c.recorded_in-runner in
+    let told = c.entries.result.now in
+    let its : a.entries ≡ Some told = subst (HasItsJournal a) c.in-Full.is r.ensures.journal ∙ ap Some (sym c.entries.ensures) in
+    of_full a (λ d. IsAgreesLine) (record_of a r.result r.ensures) _ told its c.tell_run.ensures
+
+pub returns : goal.returns
+returns c =
+    let a = contents c.args.parts in
+    let r = c.recorded_in-runner in
+    let told = c.entries-in-Plain.result.now in
+    let its : a.plain ≡ Some told = subst (HasItsJournal a) c.in-Plain.is r.ensures.journal ∙ ap Some (sym c.entries-in-Plain.ensures) in
+    of_plain a (λ d. IsAgreesLine) (record_of a r.result r.ensures) _ told its c.tell_run-in-Plain.ensures
