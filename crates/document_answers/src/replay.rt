@@ -14,8 +14,8 @@ use crate::recorded::{Journal, Recorded, recorded_in};
 use action_eval::Runner;
 use amoebot_state::{Decider, NoMemory, World};
 use serial_model::{
-    Differs, EntryForm, first_no_step_is_unique, plain_run_is_unique, replay_in, run_has_only_steps,
-    run_or_first_no_step,
+    Differs, EntryForm, first_no_step_is_unique, plain_run_is_unique, replay_in,
+    run_has_only_steps, run_or_first_no_step,
 };
 use shape_files::{Form, Parts};
 use std::alloc::Global;
