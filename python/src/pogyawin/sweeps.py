@@ -2,6 +2,7 @@
 
 import builtins
 import functools
+import importlib
 import importlib.util
 import sys
 from typing import Any, Callable, Iterable, List, Sequence, TypeVar, Union
@@ -18,8 +19,7 @@ def sweep(call: Callable[[T], R], items: Sequence[T], map: Callable[..., Iterabl
     `sweep(int, ["1", "2"]) == [1, 2]`"""
     results = map(functools.partial(_guarded, call), items)
     if sys.stderr.isatty() and importlib.util.find_spec("tqdm"):
-        from tqdm import tqdm  # type: ignore[import]
-        results = tqdm(results, total=len(items))
+        results = importlib.import_module("tqdm").tqdm(results, total=len(items))
     return [_guarded(_result, result) for result in results]
 
 def _guarded(call: Callable[[Any], Any], item: Any) -> Any:

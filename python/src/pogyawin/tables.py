@@ -1,6 +1,7 @@
 """What a run did over its places, as tables. Place `k` is the moment behind `k` entries, so place 0 is the first shape."""
 
 import csv
+import importlib
 import io
 import json
 from collections import Counter
@@ -27,8 +28,7 @@ class Table:
 
     def to_frame(self) -> Any:
         """The table as a frame of pandas. Raises `ImportError` where pandas is not there."""
-        import pandas  # type: ignore[import]
-        return pandas.DataFrame(list(self.rows), columns=list(self.columns))
+        return importlib.import_module("pandas").DataFrame(list(self.rows), columns=list(self.columns))
 
     def __str__(self) -> str:
         cells = [list(map(str, row)) for row in (self.columns, *self.rows)]
