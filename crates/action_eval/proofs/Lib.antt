@@ -8,7 +8,7 @@ pub mod GuardLoops
 pub mod SumLoops
 pub mod Nodes
 pub mod PartSizes
-pub mod PlainSums
+pub mod SimpleSums
 pub mod PortsOf
 pub mod Terms
 pub mod RunningLemmas

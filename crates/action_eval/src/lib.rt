@@ -5,9 +5,9 @@ mod effect;
 mod laws;
 mod names;
 mod number;
-mod plain;
 mod port;
 mod runner;
+mod simple;
 mod value;
 
 pub use laws::{guarded_runs_stay_connected, runner_decides_verdict};

@@ -18,8 +18,8 @@ ghost use Rattle.action_eval.specs.UnderNames.{MayAsk, guard_at};
 
 use crate::names::Names;
 use crate::number::{compare, signed};
-use crate::plain::{plain_comparison, plain_port};
 use crate::port::{inner_value, is_one_of, is_own_port, pairs};
+use crate::simple::{simple_comparison, simple_port};
 use action_tree::{DirTerm, Guard, PortExpr, PortSet, Sum, Term, Word};
 use amoebot_state::{End, Failure, Port};
 use model_ops::Site;
@@ -75,7 +75,7 @@ pub fn guard_value<'p>(
 
 /// The value of a guard.
 /// Those that stand most often are answered here, without the room that the others need:
-/// comparisons of plain sums are looked up at once.
+/// comparisons of simple sums are looked up at once.
 #[inline(always)]
 #[cycle(values)]
 pub fn quick_value<'p>(
@@ -93,7 +93,9 @@ pub fn quick_value<'p>(
         Guard::Expanded => Ok(!site.own().is_contracted()),
         Guard::And(guards) => each_value(guards, site, names),
         Guard::Or(guards) => some_value(guards, site, names),
-        Guard::Compare(left, cmp, right) => match plain_comparison(left, *cmp, right, site, names) {
+        Guard::Compare(left, cmp, right) => match simple_comparison(
+            left, *cmp, right, site, names,
+        ) {
             Some(value) => Ok(value),
             None => guard_value(guard, site, names),
         },
@@ -372,7 +374,7 @@ fn quick_port<'p>(port: &'p PortExpr, site: &Site<'_>, names: &Names<'p>) -> Res
     requires counted { is_port_expr (view.port_of port.now) ≡ true }
     ensures { result ≡ spec.port_value (sight_of site.now) (known names.now) (view.port_of port.now) }
 {
-    match plain_port(port, names) {
+    match simple_port(port, names) {
         Some(port) => Ok(port),
         None => port_value(port, site, names),
     }

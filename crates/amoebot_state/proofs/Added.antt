@@ -34,7 +34,7 @@ pub record MayCome (c : Config) (b : Bot) : Type 0 where
   pub tail_free : occupant c b.tail ≡ None
 
 pub no_fault : (c : Config) (b : Bot) → IsBotInRange b → bot_fault c b ≡ None → MayCome c b
-no_fault c b plain h =
+no_fault c b in_range h =
     let one = passes (is_in c.area b.head && is_in c.area b.tail) _ _ h in
     let ins = and_parts _ _ one.0 in
     let two = passes (is_close b.head b.tail) _ _ one.1 in
@@ -44,7 +44,7 @@ no_fault c b plain h =
     let free = or_parts _ _ three.0 in
     let four = passes (has_values c.maxes b.mem) _ _ three.1 in
     record {
-      fits = record { head = ins.0; tail = ins.1; head_open = open_nodes.0; tail_open = open_nodes.1; close = two.0; rot = plain.rot; values = four.0; eight = plain.eight };
+      fits = record { head = ins.0; tail = ins.1; head_open = open_nodes.0; tail_open = open_nodes.1; close = two.0; rot = in_range.rot; values = four.0; eight = in_range.eight };
       head_free = none_if _ free.0;
       tail_free = none_if _ free.1;
     }

@@ -85,22 +85,22 @@ frame_valid c area eight = walled_frame_is_valid c.area [] c.maxes area eight
 
 -- one amoebot, and two, of which none has a fault
 pub valid_one : (c : Config) → IsValid (frame c) → (b : Bot) → IsBotInRange b → bot_fault (frame c) b ≡ None → IsValid (with_these c (b ∷ []))
-valid_one c valid b plain fine = valid_with (frame c) b valid (no_fault (frame c) b plain fine)
+valid_one c valid b in_range fine = valid_with (frame c) b valid (no_fault (frame c) b in_range fine)
 
 pub valid_two : (c : Config) → IsValid (frame c) → (b d : Bot) → IsBotInRange b → IsBotInRange d → bot_fault (frame c) b ≡ None → bot_fault (with_these c (b ∷ [])) d ≡ None → IsValid (with_these c (b ∷ d ∷ []))
 valid_two c valid b d plain_b plain_d fine apart = valid_with (with_these c (b ∷ [])) d (valid_one c valid b plain_b fine) (no_fault (with_these c (b ∷ [])) d plain_d apart)
 
 -- the amoebots before a place are those of a valid configuration
 before_valid : (c : Config) (bots : List Bot) → IsValid (frame c) → All IsBotInRange bots → (n : ℕ) → n ≤ length bots → IsFaultless c bots n → IsValid (with_these c (take n bots))
-before_valid c bots valid plain zero le faultless = valid
-before_valid c bots valid plain (suc n) le faultless =
+before_valid c bots valid in_range zero le faultless = valid
+before_valid c bots valid in_range (suc n) le faultless =
     let lt : n < length bots = omega arith in
     let b = get_or bots n blank in
     let was = with_these c (take n bots) in
-    let may = no_fault was b (All-get_or IsBotInRange bots n blank lt plain) (faultless n b (omega arith) (slice_get-get_or bots n blank lt)) in
-    let before = before_valid c bots valid plain n (omega arith) (λ j d below at. faultless j d (omega arith) at) in
+    let may = no_fault was b (All-get_or IsBotInRange bots n blank lt in_range) (faultless n b (omega arith) (slice_get-get_or bots n blank lt)) in
+    let before = before_valid c bots valid in_range n (omega arith) (λ j d below at. faultless j d (omega arith) at) in
     subst IsValid (sym (ap (with_these c) (take-suc bots n blank lt) ∙ these_push c (take n bots) b)) (valid_with was b before may)
 
 pub faultless_is_valid : FaultlessIsValid
-faultless_is_valid c bots valid plain faultless =
-    subst (λ (bs : List Bot). IsValid (with_these c bs)) (take-length bots) (before_valid c bots valid plain (length bots) (omega arith) faultless)
+faultless_is_valid c bots valid in_range faultless =
+    subst (λ (bs : List Bot). IsValid (with_these c bs)) (take-length bots) (before_valid c bots valid in_range (length bots) (omega arith) faultless)

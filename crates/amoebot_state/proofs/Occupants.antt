@@ -119,11 +119,11 @@ outside_empty c valid v e =
     ] refl
 
 -- what an amoebot in an area has to be, and what a valid configuration says of an amoebot of it
-pub plain_in : (a : Extent) → IsArea a → (b : Bot) → IsTrue (is_in a b.head) → IsTrue (is_in a b.tail) → b.rot < 6 → length b.mem ≡ 8 → IsBotInRange b
-plain_in a area b head tail rot eight = record { head = near_in a b.head area head; tail = near_in a b.tail area tail; rot = rot; eight = eight }
+pub in_range_of : (a : Extent) → IsArea a → (b : Bot) → IsTrue (is_in a b.head) → IsTrue (is_in a b.tail) → b.rot < 6 → length b.mem ≡ 8 → IsBotInRange b
+in_range_of a area b head tail rot eight = record { head = near_in a b.head area head; tail = near_in a b.tail area tail; rot = rot; eight = eight }
 
-pub plain_bot : (c : Config) → IsValid c → (i : ℕ) (b : Bot) → bot_at c i ≡ Some b → IsBotInRange b
-plain_bot c valid i b at = let fits = valid.each i b at in plain_in c.area valid.area b fits.head fits.tail fits.rot fits.eight
+pub bot_in_range : (c : Config) → IsValid c → (i : ℕ) (b : Bot) → bot_at c i ≡ Some b → IsBotInRange b
+bot_in_range c valid i b at = let fits = valid.each i b at in in_range_of c.area valid.area b fits.head fits.tail fits.rot fits.eight
 
 -- nor is such a node a wall
 pub covered_open : (c : Config) → IsValid c → (i : ℕ) (v : Node) → covers (bot_at c i) v ≡ true → is_wall c v ≡ false

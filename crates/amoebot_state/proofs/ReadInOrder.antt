@@ -27,7 +27,7 @@ use Rattle.amoebot_state.proofs.Counts.{own_then_few, at_most_ten_nodes, at_most
 use Rattle.amoebot_state.proofs.Fronts.{front_next, front_left, slice_get_left, Has-from_slice_get}
 use Rattle.amoebot_state.proofs.Known.{read_cases, behind_body, known_cases, told_by, others_longer, shown_lists_zone, shown_holds_values}
 use Rattle.amoebot_state.proofs.Members.{Contains-from_Has, here}
-use Rattle.amoebot_state.proofs.Occupants.{plain_bot}
+use Rattle.amoebot_state.proofs.Occupants.{bot_in_range}
 use Rattle.amoebot_state.proofs.Options.{there_is}
 use Rattle.amoebot_state.proofs.ShownAlone.{body_shown}
 use Rattle.amoebot_state.proofs.Zones.{zone_is, others_taken_up}
@@ -65,7 +65,7 @@ pub record IsOwnBody (a : Extent) (i : ℕ) (vs : List Node) (js : List ℕ) (x 
   pub holds : x ≡ cell.Body bot
   pub nodes : vs ≡ []
   pub bodies : js ≡ []
-  pub plain : IsBotInRange bot
+  pub in_range : IsBotInRange bot
   pub few : length (zone_nodes a bot) ≤ 10
   pub read : own ≡ Some bot
   pub now : new ≡ parts i (zone_nodes a bot) []
@@ -207,7 +207,7 @@ module _ (c : Config) (i : ℕ) (b : Bot) (valid : IsValid c) (at : bot_at c i �
                 holds = own_body n x (ap (slice_get (parts i nodes (others on i nodes))) (sym none) ∙ listed) holds;
                 nodes = none_yet.0;
                 bodies = none_yet.1;
-                plain = plain_bot c valid i b at;
+                in_range = bot_in_range c valid i b at;
                 few = few_nodes;
                 read = own_among m more longer front;
                 now = now ∙ ap (told_by c i b) first ∙ ap (λ k. parts k nodes []) (sym own_is);
@@ -246,7 +246,7 @@ module _ (a : Extent) (i : ℕ) (vs : List Node) (js : List ℕ) (x : Cell) (was
   own_read b holds none = elim is [
     | inl first ↦
         let same : first.bot ≡ b = let e = first.holds in cc in
-        (subst IsBotInRange same first.plain, subst (λ d. length (zone_nodes a d) ≤ 10) same first.few, first.now ∙ (λ t. parts i (zone_nodes a (same t)) (sym first.bodies t)), first.read ∙ ap Some same)
+        (subst IsBotInRange same first.in_range, subst (λ d. length (zone_nodes a d) ≤ 10) same first.few, first.now ∙ (λ t. parts i (zone_nodes a (same t)) (sym first.bodies t)), first.read ∙ ap Some same)
     | inr (more, _) ↦ elim more [
       | inl node ↦ let e = node.holds in absurd (cc)
       | inr other ↦ absurd (omega (arith, none, other.some))
@@ -278,11 +278,11 @@ pub read_before : (a : Extent) (i : ℕ) (cells further : Pairs) → AreReadInOr
 read_before a i cells further read = record { config = read.config; valid = read.valid; area = read.area; there = read.there; front = front_left cells further (shown read.config i).cells read.front }
 
 -- the own amoebot among them is one that may stand
-pub read_plain : (a : Extent) (i : ℕ) (cells : Pairs) → AreReadInOrder a i cells → IfSome (body_in cells i) IsBotInRange
-read_plain a i cells read =
+pub read_in_range : (a : Extent) (i : ℕ) (cells : Pairs) → AreReadInOrder a i cells → IfSome (body_in cells i) IsBotInRange
+read_in_range a i cells read =
     let c = read.config in
     let (b, at) = there_is (bot_at c i) read.there in
     elim (read_cases c i b cells at read.front) [
       | inl none ↦ subst (λ ps. IfSome (body_in ps i) IsBotInRange) (sym none) tt
-      | inr (m, long, e) ↦ subst (λ o. IfSome o IsBotInRange) (sym (ap (λ ps. body_in ps i) e ∙ body_shown c (name.Body i ∷ take m (behind_body c i b)) i here ∙ at)) (plain_bot c read.valid i b at)
+      | inr (m, long, e) ↦ subst (λ o. IfSome o IsBotInRange) (sym (ap (λ ps. body_in ps i) e ∙ body_shown c (name.Body i ∷ take m (behind_body c i b)) i here ∙ at)) (bot_in_range c read.valid i b at)
     ]

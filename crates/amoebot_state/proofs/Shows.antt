@@ -30,7 +30,7 @@ use Rattle.amoebot_state.proofs.Counts.{at_most_ten_nodes, at_most_eight_others,
 use Rattle.amoebot_state.specs.Laws.{ShownAloneHasTheZone, BesideHoldsTheSame, BesideHasTheSameWalls, is_spot}
 use Rattle.amoebot_state.proofs.Members.{Has, here, later, has_cases, not_in_none, length-filter_map-le, Contains-from_Has, Has-from_Contains}
 use Rattle.amoebot_state.proofs.Options.{there_is, none_if}
-use Rattle.amoebot_state.proofs.Occupants.{plain_bot, outside_empty}
+use Rattle.amoebot_state.proofs.Occupants.{bot_in_range, outside_empty}
 use Rattle.amoebot_state.proofs.Directions.{beside_in_zone}
 use Rattle.amoebot_state.proofs.ShownAlone.{spread_at, body_shown, alone_own, alone_valid, alone_occupant, alone_has, alone_only, alone_wall, no_wall_outside}
 use Rattle.amoebot_state.proofs.WallsRead.{nodes_in-append, walls_are}
@@ -83,8 +83,8 @@ zone_cells_nodes c i x vs is =
 pub shown_valid : (s : Shown) → IsShown s → IsValid (shown_alone s)
 shown_valid s is = let P : Shown → Type 0 = λ t. IsValid (shown_alone t) in subst P is.3 (alone_valid is.0 s.bot is.1)
 
-pub shown_plain : (s : Shown) (b : Bot) (ways : List Way) → IsFound s b ways → IsBotInRange b
-shown_plain s b ways is = plain_bot (shown_alone s) (shown_valid s is.shown) s.bot b is.owner
+pub shown_in_range : (s : Shown) (b : Bot) (ways : List Way) → IsFound s b ways → IsBotInRange b
+shown_in_range s b ways is = bot_in_range (shown_alone s) (shown_valid s is.shown) s.bot b is.owner
 
 -- a zone has at most nineteen cells
 pub length-shown-le : (s : Shown) → IsShown s → length s.cells ≤ 19
@@ -107,13 +107,13 @@ shown_own s is =
     let (b, at) = there_is (bot_at c s.bot) is.2 in
     let fits = is.1.each s.bot b at in
     let P : Shown → Type 0 = λ t. (a : Bot) × (body_in t.cells s.bot ≡ Some a) × IsBotInRange a × (length (zone_nodes t.area a) ≤ 10) in
-    subst P is.3 (b, body_shown c (zone c s.bot) s.bot (own_in_zone c s.bot b at) ∙ at, plain_bot c is.1 s.bot b at, at_most_ten_nodes c.area b fits.rot fits.close)
+    subst P is.3 (b, body_shown c (zone c s.bot) s.bot (own_in_zone c s.bot b at) ∙ at, bot_in_range c is.1 s.bot b at, at_most_ten_nodes c.area b fits.rot fits.close)
 
 pub own_fits : (s : Shown) (own : Bot) → IsShown s → Some own ≡ body_in s.cells s.bot → IsBotInRange own × (length (zone_nodes s.area own) ≤ 10)
 own_fits s own is e =
-    let (b, at, plain, few) = shown_own s is in
+    let (b, at, in_range, few) = shown_own s is in
     let same : b ≡ own = same_Some b own (sym at ∙ sym e) in
-    (subst IsBotInRange same plain, subst (λ a. length (zone_nodes s.area a) ≤ 10) same few)
+    (subst IsBotInRange same in_range, subst (λ a. length (zone_nodes s.area a) ≤ 10) same few)
 
 pub found_with : (s : Shown) (own : Bot) (ws : List Way) → IsShown s → Some own ≡ body_in s.cells s.bot → ws ≡ ways_of s.area own → IsFound s own ws
 found_with s own ws is e to = record { shown = is; owner = spread_at s.cells s.bot ∙ sym e; ways = to }
@@ -161,7 +161,7 @@ spot_told s is v beside =
     let beside_own : is_beside b v ≡ true = ap (λ o. is_beside (unwrap_or o blank) v) (sym (alone_own c i b own.1)) ∙ near in
     elim (cases_Bool (is_in c.area v)) [
       | inl inside ↦
-          let has = beside_in_zone c.area b v (plain_bot c valid i b own.1).rot beside_own inside in
+          let has = beside_in_zone c.area b v (bot_in_range c valid i b own.1).rot beside_own inside in
           ap (λ o. unwrap_or o None) (spot_found c (zone c i) v (spot_in_zone c i b v own.1 has)) ∙ sym (alone_occupant c i b v valid own.1 has)
       | inr outside ↦
           ap (λ o. unwrap_or o None) (spot_absent c (zone c i) v (λ has. both_ways _ outside (zone_inside c i b v valid own.1 has)))
@@ -188,9 +188,9 @@ few_nodes c i valid = omega (arith, length-nodes c (zone c i), length-filter is_
     ] refl
 
 -- an amoebot of what is shown alone
-pub plain_if : (s : Shown) → IsShown s → (r : Option (Bor Bot)) (i : ℕ) → option_copied r ≡ bot_at (shown_alone s) i → IfSome r (λ b. IsBotInRange b.now)
-plain_if s is None i e = tt
-plain_if s is (Some b) i e = plain_bot (shown_alone s) (shown_valid s is) i b.now (sym e)
+pub in_range_if : (s : Shown) → IsShown s → (r : Option (Bor Bot)) (i : ℕ) → option_copied r ≡ bot_at (shown_alone s) i → IfSome r (λ b. IsBotInRange b.now)
+in_range_if s is None i e = tt
+in_range_if s is (Some b) i e = bot_in_range (shown_alone s) (shown_valid s is) i b.now (sym e)
 
 -- ---- what is shown alone, and the configuration that shows it
 

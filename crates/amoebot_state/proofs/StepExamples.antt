@@ -20,7 +20,7 @@ use Rattle.amoebot_state.specs.Patches.{IsPatched, diff}
 use Rattle.amoebot_state.specs.Examples.{eight_by_eight}
 use Rattle.amoebot_state.specs.Steps.{Step, Run, change_of}
 use Rattle.amoebot_state.proofs.Faults.{walled_frame_is_valid, valid_one, valid_two}
-use Rattle.amoebot_state.proofs.Occupants.{plain_in}
+use Rattle.amoebot_state.proofs.Occupants.{in_range_of}
 use Rattle.amoebot_state.proofs.OldValues.{diff_leads}
 use Rattle.amoebot_state.proofs.ExampleLemmas.{at, held, free, shows, with_body, entered, handed_over, body_changed, first, expanded, contracted, against, world, alone, alone_out, going_out, pair, marked, stretched, train, pulled, turned, turned_out}
 
@@ -37,8 +37,8 @@ eight_is_area = record {
   h_high = omega arith;
 }
 
-pub plain : (b : Bot) → IsTrue (is_in eight_by_eight b.head) → IsTrue (is_in eight_by_eight b.tail) → b.rot < 6 → length b.mem ≡ 8 → IsBotInRange b
-plain = plain_in eight_by_eight eight_is_area
+pub in_range : (b : Bot) → IsTrue (is_in eight_by_eight b.head) → IsTrue (is_in eight_by_eight b.tail) → b.rot < 6 → length b.mem ≡ 8 → IsBotInRange b
+in_range = in_range_of eight_by_eight eight_is_area
 
 open_valid : IsValid (world [])
 open_valid = walled_frame_is_valid eight_by_eight [] (first 1) eight_is_area refl
@@ -73,10 +73,10 @@ abbrev pub out_entry : Entry
 out_entry = record { caller = 0; turn = 0; bot = 0; action = 0; moved = moved.Expand (port Head 0); patch = going_out }
 
 alone_valid : IsValid alone
-alone_valid = one_valid (contracted (at 2 3)) (plain (contracted (at 2 3)) refl refl (omega arith) refl) refl
+alone_valid = one_valid (contracted (at 2 3)) (in_range (contracted (at 2 3)) refl refl (omega arith) refl) refl
 
 alone_out_valid : IsValid alone_out
-alone_out_valid = one_valid stretched (plain stretched refl refl (omega arith) refl) refl
+alone_out_valid = one_valid stretched (in_range stretched refl refl (omega arith) refl) refl
 
 -- whatever decides so makes this run
 pub alone_runs : (f : Shown → Verdict) → f (shown alone 0) ≡ verdict.Change goes_out → Run f alone (out_entry ∷ []) alone_out
@@ -87,10 +87,10 @@ abbrev pub turned_entry : Entry
 turned_entry = record { caller = 0; turn = 0; bot = 0; action = 0; moved = moved.Expand (port Head 1); patch = entered 2 2 0 ∷ body_changed 0 (against 5 (at 2 3)) turned_out ∷ [] }
 
 turned_valid : IsValid turned
-turned_valid = one_valid (against 5 (at 2 3)) (plain (against 5 (at 2 3)) refl refl (omega arith) refl) refl
+turned_valid = one_valid (against 5 (at 2 3)) (in_range (against 5 (at 2 3)) refl refl (omega arith) refl) refl
 
 turned_out_valid : IsValid (world (turned_out ∷ []))
-turned_out_valid = one_valid turned_out (plain turned_out refl refl (omega arith) refl) refl
+turned_out_valid = one_valid turned_out (in_range turned_out refl refl (omega arith) refl) refl
 
 pub turned_steps : (f : Shown → Verdict) → f (shown turned 0) ≡ verdict.Change (change_of turned_entry) → Step f turned turned_entry (world (turned_out ∷ []))
 turned_steps f one = record { there = refl; decided = one; patched = one_leads (against 5 (at 2 3)) turned_out turned_valid turned_out_valid }
@@ -115,13 +115,13 @@ next_marking_changes : diff one_marked both_marked ≡ body_changed 1 (contracte
 next_marking_changes = refl
 
 pair_valid : IsValid pair
-pair_valid = two_valid (contracted (at 2 3)) (contracted (at 3 3)) (plain (contracted (at 2 3)) refl refl (omega arith) refl) (plain (contracted (at 3 3)) refl refl (omega arith) refl) refl refl
+pair_valid = two_valid (contracted (at 2 3)) (contracted (at 3 3)) (in_range (contracted (at 2 3)) refl refl (omega arith) refl) (in_range (contracted (at 3 3)) refl refl (omega arith) refl) refl refl
 
 one_marked_valid : IsValid one_marked
-one_marked_valid = two_valid marked (contracted (at 3 3)) (plain marked refl refl (omega arith) refl) (plain (contracted (at 3 3)) refl refl (omega arith) refl) refl refl
+one_marked_valid = two_valid marked (contracted (at 3 3)) (in_range marked refl refl (omega arith) refl) (in_range (contracted (at 3 3)) refl refl (omega arith) refl) refl refl
 
 both_marked_valid : IsValid both_marked
-both_marked_valid = two_valid marked next_marked (plain marked refl refl (omega arith) refl) (plain next_marked refl refl (omega arith) refl) refl refl
+both_marked_valid = two_valid marked next_marked (in_range marked refl refl (omega arith) refl) (in_range next_marked refl refl (omega arith) refl) refl refl
 
 -- whatever decides so makes this run
 marks_run : (f : Shown → Verdict) → f (shown pair 0) ≡ verdict.Change (change_of (marking 0 (contracted (at 2 3)) marked)) → f (shown one_marked 1) ≡ verdict.Change (change_of (marking 1 (contracted (at 3 3)) next_marked)) → Run f pair (marking 0 (contracted (at 2 3)) marked ∷ marking 1 (contracted (at 3 3)) next_marked ∷ []) both_marked
@@ -151,13 +151,13 @@ noting_changes : diff pulled pulled_noted ≡ body_changed 1 (expanded (at 2 3) 
 noting_changes = refl
 
 train_valid : IsValid train
-train_valid = two_valid stretched (contracted (at 1 3)) (plain stretched refl refl (omega arith) refl) (plain (contracted (at 1 3)) refl refl (omega arith) refl) refl refl
+train_valid = two_valid stretched (contracted (at 1 3)) (in_range stretched refl refl (omega arith) refl) (in_range (contracted (at 1 3)) refl refl (omega arith) refl) refl refl
 
 pulled_valid : IsValid pulled
-pulled_valid = two_valid (contracted (at 3 3)) (expanded (at 2 3) (at 1 3)) (plain (contracted (at 3 3)) refl refl (omega arith) refl) (plain (expanded (at 2 3) (at 1 3)) refl refl (omega arith) refl) refl refl
+pulled_valid = two_valid (contracted (at 3 3)) (expanded (at 2 3) (at 1 3)) (in_range (contracted (at 3 3)) refl refl (omega arith) refl) (in_range (expanded (at 2 3) (at 1 3)) refl refl (omega arith) refl) refl refl
 
 pulled_noted_valid : IsValid pulled_noted
-pulled_noted_valid = two_valid (contracted (at 3 3)) noted (plain (contracted (at 3 3)) refl refl (omega arith) refl) (plain noted refl refl (omega arith) refl) refl refl
+pulled_noted_valid = two_valid (contracted (at 3 3)) noted (in_range (contracted (at 3 3)) refl refl (omega arith) refl) (in_range noted refl refl (omega arith) refl) refl refl
 
 train_runs : (f : Shown → Verdict) → f (shown train 0) ≡ verdict.Change (change_of pulling) → f (shown pulled 1) ≡ verdict.Change (change_of noting) → Run f train (pulling ∷ noting ∷ []) pulled_noted
 train_runs f one two = (

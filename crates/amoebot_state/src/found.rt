@@ -206,7 +206,7 @@ impl Found {
     /// The amoebot that is shown this.
     pub fn own(&self) -> &Bot
         ensures value { Some result.now ≡ bot_at (shown_alone self.now) self.now.bot }
-        ensures plain { IsBotInRange result.now }
+        ensures in_range { IsBotInRange result.now }
         ensures shown { IsShown self.now }
         ensures valid { IsValid (shown_alone self.now) }
     {
@@ -304,7 +304,7 @@ impl Found {
     /// The amoebot with an id; None exactly where its body is not in the zone.
     pub fn body(&self, id: u16) -> Option<&Bot>
         ensures value { option_copied result ≡ bot_at (shown_alone self.now) id }
-        ensures plain { IfSome result (λ b. IsBotInRange b.now) }
+        ensures in_range { IfSome result (λ b. IsBotInRange b.now) }
     {
         body_in(self.cells.as_slice(), id)
     }

@@ -18,7 +18,7 @@ type Names = ArrayVec<CellName, CELL_ROOM>;
 /// None exactly where the zone as these cells tell it has no more.
 /// It takes no memory.
 pub fn next_cell(area: &Area, bot: u16, cells: &[(CellName, Cell)]) -> Option<CellName>
-    requires plain { IfSome (body_in cells.now bot) IsBotInRange }
+    requires in_range { IfSome (body_in cells.now bot) IsBotInRange }
     ensures { result ≡ next_cell area.now bot cells.now }
 {
     let zone = known_zone(area, bot, cells);
@@ -27,7 +27,7 @@ pub fn next_cell(area: &Area, bot: u16, cells: &[(CellName, Cell)]) -> Option<Ce
 
 /// The zone as the cells that were read tell it.
 fn known_zone(area: &Area, bot: u16, cells: &[(CellName, Cell)]) -> Names
-    requires plain { IfSome (body_in cells.now bot) IsBotInRange }
+    requires in_range { IfSome (body_in cells.now bot) IsBotInRange }
     ensures { result.items ≡ known_zone area.now bot cells.now }
 {
     let mut zone = ArrayVec::new();

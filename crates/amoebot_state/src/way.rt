@@ -34,7 +34,7 @@ pub(crate) type Ways = [Way; 12];
 
 /// Where the pairs of an amoebot lead.
 pub(crate) fn ways_of(area: &Area, bot: &Bot) -> Ways
-    requires plain { IsBotInRange bot.now }
+    requires in_range { IsBotInRange bot.now }
     requires few { length (zone_nodes area.now bot.now) ≤ 10 }
     ensures { result ≡ ways_of area.now bot.now }
 {
@@ -44,7 +44,7 @@ pub(crate) fn ways_of(area: &Area, bot: &Bot) -> Ways
 
 /// Adds the nodes of the amoebot's zone, and tells where its pairs lead.
 pub(crate) fn push_nodes(nodes: &mut FewNodes, area: &Area, bot: &Bot) -> Ways
-    requires plain { IsBotInRange bot.now }
+    requires in_range { IsBotInRange bot.now }
     requires none { nodes.old.items ≡ [] }
     requires few { length (zone_nodes area.now bot.now) ≤ 10 }
     ensures nodes { nodes.new.items ≡ zone_nodes area.now bot.now }
@@ -79,7 +79,7 @@ fn tail_pairs(bot: &Bot) -> usize
 /// The pairs before it have added theirs.
 /// So the node is new: a port of the head leads to no own node, and no other one leads there.
 fn push_head_way(nodes: &mut FewNodes, area: &Area, bot: &Bot, inner: bool, dir: u8) -> Way
-    requires plain { IsBotInRange bot.now }
+    requires in_range { IsBotInRange bot.now }
     requires below { dir < 6 }
     requires inner { inner ≡ true → IsTrue (is_in area.now (behind bot.now (port Head dir))) }
     requires before { nodes.old.items
@@ -102,7 +102,7 @@ fn push_head_way(nodes: &mut FewNodes, area: &Area, bot: &Bot, inner: bool, dir:
 /// The same for a pair of an expanded amoebot's tail, whose node may be
 /// behind a port of its head too.
 fn push_tail_way(nodes: &mut FewNodes, area: &Area, bot: &Bot, dir: u8) -> Way
-    requires plain { IsBotInRange bot.now }
+    requires in_range { IsBotInRange bot.now }
     requires below { dir < 6 }
     requires expanded { is_contracted bot.now ≡ false }
     requires room { length (with_port area.now bot.now nodes.old.items (port Tail dir)) ≤ 10 }

@@ -63,7 +63,7 @@ impl World {
         bots: &[Bot],
     ) -> Result<World, WorldRefusal>
         requires few { length bots.now ≤ most_bots }
-        requires plain { All IsBotInRange bots.now }
+        requires in_range { All IsBotInRange bots.now }
         ensures value { IfOk result (λ w. w ≡ with_these (frame_of area maxes) bots.now) }
         ensures faultless { OnOk result (IsFaultless (frame_of area maxes) bots.now (length bots.now)) }
         ensures fault { IfErr result (λ e.
@@ -87,7 +87,7 @@ impl World {
     ) -> Result<World, WorldRefusal>
         requires few_walls { length walls.now ≤ most_walls }
         requires few { length bots.now ≤ most_bots }
-        requires plain { All IsBotInRange bots.now }
+        requires in_range { All IsBotInRange bots.now }
         ensures value { IfOk result (λ w. w ≡ with_these (walled_frame area walls.now maxes) bots.now) }
         ensures walls { OnOk result (AreWalls area walls.now (length walls.now)) }
         ensures faultless { OnOk result (
@@ -102,7 +102,7 @@ impl World {
     /// A world of these amoebots in a frame.
     fn framed(alloc: Global, frame: Frame, bots: &[Bot]) -> Result<World, WorldRefusal>
         requires few { length bots.now ≤ most_bots }
-        requires plain { All IsBotInRange bots.now }
+        requires in_range { All IsBotInRange bots.now }
         ensures value { IfOk result (λ w. w ≡ with_these frame bots.now) }
         ensures faultless { OnOk result (IsFaultless frame bots.now (length bots.now)) }
         ensures fault { IfErr result (λ e. (e ≡ WorldRefusal.NoMemory) ⊎ IsFirstFault frame bots.now e) }
@@ -133,7 +133,7 @@ impl World {
     /// The first fault of an amoebot that is to be the next.
     fn fault(&self, bot: &Bot) -> Option<WorldRefusal>
         requires few { length self.now.bots < most_bots }
-        requires plain { IsBotInRange bot.now }
+        requires in_range { IsBotInRange bot.now }
         ensures { result ≡ bot_fault self.now bot.now }
     {
         let id = self.amoebots.len() as u16;
@@ -180,7 +180,7 @@ impl World {
 
     fn add(&mut self, bot: &Bot) -> Result<(), WorldRefusal>
         requires few { length self.old.bots < most_bots }
-        requires plain { IsBotInRange bot.now }
+        requires in_range { IsBotInRange bot.now }
         ensures ok { OnOk result ((bot_fault self.old bot.now ≡ None)
             × (self.new ≡ with_bot self.old bot.now)) }
         ensures err { IfErr result (λ e.
@@ -237,7 +237,7 @@ impl World {
     pub fn bot(&self, id: u16) -> &Bot
         requires { id < length self.now.bots }
         ensures value { Some result.now ≡ bot_at self.now id }
-        ensures plain { IsBotInRange result.now }
+        ensures in_range { IsBotInRange result.now }
     {
         &self.amoebots[usize::from(id)]
     }
@@ -443,7 +443,7 @@ impl World {
     fn own(&self, id: u16) -> Bot
         requires { id < length self.now.bots }
         ensures value { bot_at self.now id ≡ Some result }
-        ensures plain { IsBotInRange result }
+        ensures in_range { IsBotInRange result }
     {
         let _frame = &self.frame;
         *self.bot(id)

@@ -45,7 +45,7 @@ fn own_nodes(bot: &Bot) -> Nodes
 
 /// Adds the node behind a port, where it lies in the area and is new.
 fn push_port(area: &Area, bot: &Bot, port: Port, nodes: &mut Nodes)
-    requires plain { IsBotInRange bot.now }
+    requires in_range { IsBotInRange bot.now }
     requires room { array_vec_len nodes.old < node_room }
     ensures value { nodes.new.items ≡ with_port area.now bot.now nodes.old.items port }
     ensures few { array_vec_len nodes.new ≤ array_vec_len nodes.old + 1 }

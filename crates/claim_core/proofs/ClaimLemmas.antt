@@ -18,7 +18,7 @@ use Rattle.amoebot_state.specs.Configs.{Config, IsValid, bot_at, value}
 use Rattle.amoebot_state.specs.Refusals.{IsBotInRange}
 use Rattle.amoebot_state.specs.Zones.{IsShown, shown_with, zone}
 use Rattle.amoebot_state.specs.Known.{AreReadInOrder}
-use Rattle.amoebot_state.proofs.Occupants.{plain_bot}
+use Rattle.amoebot_state.proofs.Occupants.{bot_in_range}
 use Rattle.claim_core.specs.declared.state.Caller.{Caller}
 use Rattle.claim_core.specs.declared.state.Phase.TheVariants.{Claim}
 use Rattle.claim_core.specs.Cells.{number, at}
@@ -54,7 +54,7 @@ told_plain c i cells valid all = by (body_in cells i) refl
   where
     by : (o : Option Bot) → body_in cells i ≡ o → IfSome o IsBotInRange
     by None e = tt
-    by (Some b) e = plain_bot c valid i b (body_told c i cells b all e)
+    by (Some b) e = bot_in_range c valid i b (body_told c i cells b all e)
 
 module _ (g : Setup) (ok : IsSetup g) where
   pub held_plain : (s : State) (sound : Sound g s) (c : ℕ) (k : Caller) → slice_get s.callers c ≡ Some k → (i : ℕ) → IfSome (body_in (reverse k.held) i) IsBotInRange

@@ -81,10 +81,11 @@ TurnOk f first lists entries marks caller turn (mark.Busy cell by_caller by_turn
     × MayHold f first lists entries marks caller cell by_caller by_turn by_bot
 
 -- Two relations between the number of a caller's marks and the number of its list's turns.
--- After the run each turn has a mark; before its end only the first turns have one.
+-- After the run each turn has a mark.
 abbrev pub AllTurns : ℕ → ℕ → Type 0
 AllTurns marked turns = marked ≡ turns
 
+-- Before its end only the first turns have one.
 abbrev pub SoFar : ℕ → ℕ → Type 0
 SoFar marked turns = marked ≤ turns
 

@@ -41,7 +41,7 @@ use Rattle.claim_rule.specs.declared.views.Record.{Record}
 use Rattle.claim_rule.specs.Views.{Seated, like, own, goes_on}
 use Rattle.tri_lattice.specs.declared.node.Node.{Node}
 use Rattle.claim_rule.specs.declared.views.Note.{Note}
-use Rattle.claim_rule.specs.Manners.{CommitWay, by_journal, by_ticket, first_plain, has_slot, slot_of, noted_nodes}
+use Rattle.claim_rule.specs.Manners.{CommitWay, by_journal, by_ticket, first_slotted, has_slot, slot_of, noted_nodes}
 use Rattle.claim_rule.specs.Plays.{IsPlaced, IsKnown, IsOthers, IsToTry, IsToTryNode, IsToFree, Wins, IsRefusedAt, tried, IsToFreeNode, IsToRead, occ_in, but_first, but_last, mark_of_phase, marked_at, released_caller, with_node, about, bot_in}
 use Rattle.claim_rule.specs.Tokens.{AreOut, IsSeat, IsActivation, IsClaiming, IsStopped, HoldsWholeZone, HasMark, IsFreeing}
 
@@ -121,7 +121,7 @@ read_place (Committing change) place reads = absurd reads
 read_place Releasing place reads = absurd reads
 read_place Ended place reads = absurd reads
 
--- a plain cell more is held, whose slot is out; and one less
+-- a slotted cell more is held, whose slot is out; and one less
 out_more : (way : CommitWay) (a : Extent) (s : Bool) (n : CellName) (x y : Cell) (held : Pairs) (out : List (ℕ × Slot)) → has_slot way n ≡ true → (s ≡ false → y ≡ x) → AreOut way a s held out → AreOut way a s ((n, x) ∷ held) ((slot_of way a n, slot.Cell y) ∷ out)
 out_more by_journal a s (name.Spot v) x y held out has same are = absurd (false≢true has)
 out_more by_journal a s (name.Body i) x y held out has same are = (y, out, refl, same, are)
@@ -151,11 +151,11 @@ noted_none : (way : CommitWay) → noted_nodes way [] ≡ []
 noted_none by_journal = refl
 noted_none by_ticket = refl
 
--- a plain cell has no number below the first one
-plain_number : (way : CommitWay) (c : Config) (n : CellName) (i : ℕ) → has_slot way n ≡ true → number c.area n ≡ Some i → first_plain way c ≤ i
-plain_number by_journal c (name.Spot v) i has e = absurd (false≢true has)
-plain_number by_journal c (name.Body j) i has e = (let f = same_Some (first_plain by_journal c + j) i e in omega (arith, f))
-plain_number by_ticket c n i has e = omega arith
+-- a slotted cell has no number below the first one
+slotted_number : (way : CommitWay) (c : Config) (n : CellName) (i : ℕ) → has_slot way n ≡ true → number c.area n ≡ Some i → first_slotted way c ≤ i
+slotted_number by_journal c (name.Spot v) i has e = absurd (false≢true has)
+slotted_number by_journal c (name.Body j) i has e = (let f = same_Some (first_slotted by_journal c + j) i e in omega (arith, f))
+slotted_number by_ticket c n i has e = omega arith
 
 module _ {D : Type 0} (verdict : D → Shown → Verdict) (way : CommitWay) where
   -- the caller's next turn begins
@@ -235,7 +235,7 @@ module _ {D : Type 0} (verdict : D → Shown → Verdict) (way : CommitWay) wher
         subst (λ q. IsActivation verdict way q c t b s bare pairs notes) (λ i. (sym view i, sym out i))
         (with_held s (record (own m.0) { caller = k }) m.1 pairs notes is.few is.number is.taken (held ∙ is.held) is.placed is.won is.note is.nodes is.out)
 
-    -- a plain cell was won, and its value read
+    -- a slotted cell was won, and its value read
     module _ (n : CellName) (has : has_slot way n ≡ true) (cl : IsClaiming verdict m t b pairs) (next : next_of g (bot_in verdict m.0) (own m.0).caller.held ≡ Some n) where
       wins_it : (m' m2 : Seated D) (x v : Cell) → m'.0 ≡ goes_on m.0 (caller_with_cell g (own m.0).number (own m.0).caller n x) → m'.1 ≡ (slot_of way g.world.area n, slot.Cell x) ∷ m.1 → IsKnown g (bot_in verdict m.0) ((n, x) ∷ (own m.0).caller.held)
           → m'.1 ≡ (slot_of way g.world.area n, slot.Cell v) ∷ rest m'.1 → m2 ≡ m'
@@ -276,9 +276,9 @@ module _ {D : Type 0} (verdict : D → Shown → Verdict) (way : CommitWay) wher
       is_tried = ap (λ o. unwrap_or o (name.Body 0)) next
 
       -- so it is after a try that won it
-      pub wins_plain : (m' m2 : Seated D) (v : Cell) (k : ℕ) → Wins verdict way m m' → k ≡ slot_of way bare.area n → m'.1 ≡ (k, slot.Cell v) ∷ rest m'.1 → m2 ≡ m'
+      pub wins_slotted : (m' m2 : Seated D) (v : Cell) (k : ℕ) → Wins verdict way m m' → k ≡ slot_of way bare.area n → m'.1 ≡ (k, slot.Cell v) ∷ rest m'.1 → m2 ≡ m'
           → IsActivation verdict way m2 c t b s bare ((n, v) ∷ pairs) notes × IsClaiming verdict m2 t b ((n, v) ∷ pairs)
-      wins_plain m' m2 v k won at_k read stays =
+      wins_slotted m' m2 v k won at_k read stays =
           wins_it m' m2 won.value v
           (won.now ∙ ap (λ q. goes_on m.0 (caller_with_cell g (own m.0).number (own m.0).caller q won.value)) is_tried)
           (won.out ∙ ap (λ q. (slot_of way g.world.area q, slot.Cell won.value) ∷ m.1) is_tried)
@@ -292,9 +292,9 @@ module _ {D : Type 0} (verdict : D → Shown → Verdict) (way : CommitWay) wher
           let out : m'.1 ≡ (k, slot.Cell won.value) ∷ m.1 = won.out ∙ ap (λ q. (slot_of way g.world.area q, slot.Cell won.value) ∷ m.1) is_tried ∙ ap (λ q. (q, slot.Cell won.value) ∷ m.1) (sym here) in
           (won.value, out ∙ ap (λ (more : List (ℕ × Slot)). (k, slot.Cell won.value) ∷ more) (sym (ap rest out)))
 
-      -- the plain cell is tried next
-      pub to_try_plain : (j tag : ℕ) → number bare.area n ≡ Some j → tag ≡ own_tag g c t → IsToTry verdict way j tag m.0
-      to_try_plain j tag at_j mine =
+      -- the slotted cell is tried next
+      pub to_try_slotted : (j tag : ℕ) → number bare.area n ≡ Some j → tag ≡ own_tag g c t → IsToTry verdict way j tag m.0
+      to_try_slotted j tag at_j mine =
           let nx = sym (next_same cl.turn) ∙ next in
           let place = cl.known.placed n nx in
           let same : place.0 ≡ j = same_Some place.0 j (sym place.1.0 ∙ ap (λ (q : Config). number q.area n) (sym is.world) ∙ at_j) in
@@ -303,7 +303,7 @@ module _ {D : Type 0} (verdict : D → Shown → Verdict) (way : CommitWay) wher
             phase = cl.phase ∙ ap (after_win g b pairs) nx;
             next = next ∙ ap (λ q. Some q) (sym is_tried);
             placed = subst (λ q. IsPlaced g q j) (sym is_tried) placed;
-            plain = plain_number way g.world n j has placed.0;
+            slotted = slotted_number way g.world n j has placed.0;
             tag = mine ∙ (λ k. own_tag g (sym is.number k) (sym cl.turn k));
           }
 
@@ -323,9 +323,9 @@ module _ {D : Type 0} (verdict : D → Shown → Verdict) (way : CommitWay) wher
       },
     )
 
-    -- so it is after a try of a plain cell
-    pub stops_plain : (m' : Seated D) (n : CellName) (tag : ℕ) → IsClaiming verdict m t b pairs → next_of g (bot_in verdict m.0) (own m.0).caller.held ≡ Some n → IsRefusedAt verdict tag m m' → IsActivation verdict way m' c t b s bare pairs notes × IsStopped verdict m' c t b pairs
-    stops_plain m' n tag cl next by =
+    -- so it is after a try of a slotted cell
+    pub stops_slotted : (m' : Seated D) (n : CellName) (tag : ℕ) → IsClaiming verdict m t b pairs → next_of g (bot_in verdict m.0) (own m.0).caller.held ≡ Some n → IsRefusedAt verdict tag m m' → IsActivation verdict way m' c t b s bare pairs notes × IsStopped verdict m' c t b pairs
+    stops_slotted m' n tag cl next by =
         stops m' n tag cl next
         (by.now ∙ (λ j. like m.0 (record (own m.0) { caller = record (own m.0).caller { phase = Refusing (ap (λ o. unwrap_or o (name.Body 0)) next j) tag }; note = is.note j } ∷ []))) by.out by.other
 
@@ -451,7 +451,7 @@ module _ {D : Type 0} (verdict : D → Shown → Verdict) (way : CommitWay) wher
             marked = record { mark = fr.marked.mark; counted = ap (λ (ms : List Mark). length ms) marks ∙ fr.marked.counted; there = ap (λ ms. slice_get ms t) marks ∙ fr.marked.there; stamp = fr.marked.stamp; few = fr.marked.few };
           }
 
-    -- a plain cell
+    -- a slotted cell
     module _ (n : CellName) (x : Cell) (held : Pairs) (are : pairs ≡ (n, x) ∷ held) (has : has_slot way n ≡ true) (after : ℕ) (fr : IsFreeing verdict m t pairs after) where
       outs : (y : Cell) × (more : List (ℕ × Slot)) × (m.1 ≡ (slot_of way bare.area n, slot.Cell y) ∷ more) × (s ≡ false → y ≡ x) × AreOut way bare.area s held more
       outs = out_less way bare.area s n x held m.1 has (subst (λ (ps : Pairs). AreOut way bare.area s ps m.1) are is.out)
@@ -466,12 +466,12 @@ module _ {D : Type 0} (verdict : D → Shown → Verdict) (way : CommitWay) wher
           subst (IsToFree verdict way j) (sym now) (record {
             phase = phase_is n x held are after fr;
             inside = placed.1;
-            plain = plain_number way g.world n j has placed.0;
+            slotted = slotted_number way g.world n j has placed.0;
             last = (n, x, held, rest m.1, is.held ∙ are, placed.0, ap (λ (q : Config). (slot_of way q.area n, slot.Cell x) ∷ rest m.1) is.world);
           })
 
-      pub frees_plain : (m' m2 : Seated D) → m' ≡ (m.0, (slot_of way bare.area n, slot.Cell x) ∷ rest m.1) → m2.0 ≡ goes_on m'.0 (released_caller (about verdict m'.0) (own m'.0).caller) → m2.1 ≡ rest m'.1 → IsActivation verdict way m2 c t b s bare held notes × IsFreeing verdict m2 t held after
-      frees_plain m' m2 now view out = subst (λ q. IsActivation verdict way q c t b s bare held notes × IsFreeing verdict q t held after) (sym is_now) (
+      pub frees_slotted : (m' m2 : Seated D) → m' ≡ (m.0, (slot_of way bare.area n, slot.Cell x) ∷ rest m.1) → m2.0 ≡ goes_on m'.0 (released_caller (about verdict m'.0) (own m'.0).caller) → m2.1 ≡ rest m'.1 → IsActivation verdict way m2 c t b s bare held notes × IsFreeing verdict m2 t held after
+      frees_slotted m' m2 now view out = subst (λ q. IsActivation verdict way q c t b s bare held notes × IsFreeing verdict q t held after) (sym is_now) (
         with_held s (record (own m.0) { caller = released_caller g (own m.0).caller }) (rest m.1) held notes is.few is.number is.taken
             (ap (λ (j : Caller). j.held) (k_is n x held are after fr) ∙ frees-held g t held (own m.0).caller.marks) (rest_placed n x held are after fr) is.won is.note (is.nodes ∙ ap (noted_nodes way) are ∙ noted_still way n x held has) (subst (AreOut way bare.area s held) (sym (ap rest outs.2)) outs.4),
         freeing_still n x held are after fr (record (own m.0) { caller = released_caller g (own m.0).caller }) (rest m.1) refl,

@@ -28,11 +28,11 @@ use Rattle.claim_rule.specs.declared.views.Slot.TheVariants as slot
 use Rattle.claim_rule.specs.declared.views.Record.{Record}
 use Rattle.claim_rule.specs.declared.views.Terms.{Terms}
 use Rattle.claim_rule.specs.Views.{Content, Seated, view_of, own, setup_of_terms}
-use Rattle.claim_rule.specs.Manners.{CommitWay, by_journal, by_ticket, next_by, first_plain, slot_of}
+use Rattle.claim_rule.specs.Manners.{CommitWay, by_journal, by_ticket, next_by, first_slotted, slot_of}
 use Rattle.claim_rule.specs.Stands.{IsWon, IsStampedBy, turns_left, AreWords, AreHomes, KeepsRule}
 use Rattle.claim_rule.specs.Plays.{IsKnown, IsOthers, tried, IsToTry, Claims}
 use Rattle.claim_rule.specs.Nexts.{GoesTo, IsAt}
-use Rattle.claim_rule.proofs.Tables.{won_past, word_again, plain_written, home_else, homes_same, stamped_stays}
+use Rattle.claim_rule.proofs.Tables.{won_past, word_again, slotted_written, home_else, homes_same, stamped_stays}
 use Rattle.claim_rule.proofs.WayLemmas.{shared_by, slot_is}
 use Rattle.claim_rule.proofs.NodeClaims.{is_placed}
 use Rattle.claim_rule.specs.Words.{word_occ, word_stamp}
@@ -40,8 +40,8 @@ use Rattle.std.proofs.lemmas.List.{get_or-set_other}
 use Rattle.claim_rule.proofs.Moves.{sound, on, caller_at, counts, moves, my_stamps, journal_stays}
 use Rattle.claim_rule.proofs.NextsLemmas.{turns_same, allowed}
 
--- what a record says of nodes' words is so with a plain cell more, and in another phase
-won_stamped : (way : CommitWay) (g : Setup) (words : List ℕ) (r : Record) (n : CellName) (x : Cell) (i : ℕ) → number g.world.area n ≡ Some i → first_plain way g.world ≤ i → IsStampedBy way g words r → IsStampedBy way g words (record r { caller = caller_with_cell g r.number r.caller n x })
+-- what a record says of nodes' words is so with a slotted cell more, and in another phase
+won_stamped : (way : CommitWay) (g : Setup) (words : List ℕ) (r : Record) (n : CellName) (x : Cell) (i : ℕ) → number g.world.area n ≡ Some i → first_slotted way g.world ≤ i → IsStampedBy way g words r → IsStampedBy way g words (record r { caller = caller_with_cell g r.number r.caller n x })
 won_stamped by_journal g words r n x i e le is = record { won = won_past g (IsWon g words r.caller.turn r.caller.marks) n x r.caller.held r.won i e le is.won; noted = is.noted }
 won_stamped by_ticket g words r n x i e le is = tt
 
@@ -67,23 +67,23 @@ module _ {D : Type 0} {verdict : D → Shown → Verdict} {z : Terms D} {way : C
     old = slice_index s.words i
 
     -- the word stands behind those of the nodes
-    is_i : first_plain way z.world + at_slot ≡ i
-    is_i = slot_is way z.world n i to.placed.0 to.plain
+    is_i : first_slotted way z.world + at_slot ≡ i
+    is_i = slot_is way z.world n i to.placed.0 to.slotted
 
-    few_slots : first_plain way z.world + at_slot < cells z.world
+    few_slots : first_slotted way z.world + at_slot < cells z.world
     few_slots = let e = is_i in omega (arith, e, to.placed.1)
 
     inside : i < length core.tags
     inside = omega (arith, to.placed.1, (counts table).0)
 
     found_tag : at core.tags (number z.world.area n) ≡ Some old
-    found_tag = ap (at core.tags) to.placed.0 ∙ slice_get-get_or core.tags i 0 inside ∙ ap (λ (m : ℕ). Some m) (sym (table.stands.words.plain i to.plain to.placed.1))
+    found_tag = ap (at core.tags) to.placed.0 ∙ slice_get-get_or core.tags i 0 inside ∙ ap (λ (m : ℕ). Some m) (sym (table.stands.words.slotted i to.slotted to.placed.1))
 
     claims_it : next_by way g r.number core ≡ claims g r.number core r.caller n old
     claims_it = shared_by g way r.number core r.caller Claim (caller_at table) to.phase tt ∙ ap (tries g r.number core r.caller) to.next ∙ ap (finds g r.number core r.caller n) found_tag
 
     still : (y : ℕ) (q : Record) → IsStampedBy way g s.words q → IsStampedBy way g (set s.words i y) q
-    still y q = stamped_stays way g s.words (set s.words i y) (λ k lt. let e = get_or-set_other s.words i k y 0 (λ c. omega (arith, c, to.plain, lt)) in (ap word_occ e, ap word_stamp e)) q
+    still y q = stamped_stays way g s.words (set s.words i y) (λ k lt. let e = get_or-set_other s.words i k y 0 (λ c. omega (arith, c, to.slotted, lt)) in (ap word_occ e, ap word_stamp e)) q
 
     -- the cell was free
     hits : old ≡ 0 → GoesTo verdict z way s (next_by way g r.number core) i seat (view_of z (r ∷ []), carried) (Claims verdict way (step slots i 0 t home.none) (view_of z (r ∷ []), carried)) t
@@ -91,7 +91,7 @@ module _ {D : Type 0} {verdict : D → Shown → Verdict} {z : Terms D} {way : C
       view_of z (record r { caller = caller_with_cell g r.number r.caller n x } ∷ []),
       takes at_slot (slot.Cell x),
       table.stands.homes.cell at_slot x (ap (slice_get core.tags) is_i ∙ ap (at core.tags) (sym to.placed.0) ∙ found_free) (ap (slice_get core.values) is_i ∙ ap (at core.values) (sym to.placed.0) ∙ value),
-      moves table new (next_by way g r.number core) (on table) (caller_with_cell g r.number r.caller n x) r.won r.note (set s.words i t) (set s.homes at_slot home.none) leads refl refl refl fewer words homes (λ q apart rec st. still t q st) (won_stamped way g (set s.words i t) r n x i to.placed.0 to.plain (still t r (my_stamps table))),
+      moves table new (next_by way g r.number core) (on table) (caller_with_cell g r.number r.caller n x) r.won r.note (set s.words i t) (set s.homes at_slot home.none) leads refl refl refl fewer words homes (λ q apart rec st. still t q st) (won_stamped way g (set s.words i t) r n x i to.placed.0 to.slotted (still t r (my_stamps table))),
       ((λ _. record { value = x; now = refl; out = refl; known = known }), λ held. absurd (held free)),
     )
       where
@@ -117,14 +117,14 @@ module _ {D : Type 0} {verdict : D → Shown → Verdict} {z : Terms D} {way : C
         fewer = turns_same g core new r.number r.caller (caller_with_cell g r.number r.caller n x) (caller_at table) refl refl
 
         words : AreWords way g new (set s.words i t)
-        words = plain_written way g core new s.words i t table.stands.words to.plain to.placed.1 inside tags refl refl refl
+        words = slotted_written way g core new s.words i t table.stands.words to.slotted to.placed.1 inside tags refl refl refl
 
         homes : AreHomes way g new (set s.homes at_slot home.none)
         homes = record {
           count = length-set s.homes at_slot home.none ∙ table.stands.homes.count;
-          cell = λ j y e v. elim (get-set_cases core.tags i (first_plain way z.world + j) t 0 (ap (λ ts. slice_get ts (first_plain way z.world + j)) (sym tags) ∙ e)) [
+          cell = λ j y e v. elim (get-set_cases core.tags i (first_slotted way z.world + j) t 0 (ap (λ ts. slice_get ts (first_slotted way z.world + j)) (sym tags) ∙ e)) [
             | inl mine ↦ absurd (tag-positive r.number r.caller.turn b (sym to.tag ∙ mine.1))
-            | inr was ↦ set_else s.homes at_slot j home.none (λ q. was.0 (ap (λ m. first_plain way z.world + m) q ∙ is_i)) ∙ table.stands.homes.cell j y was.1 v
+            | inr was ↦ set_else s.homes at_slot j home.none (λ q. was.0 (ap (λ m. first_slotted way z.world + m) q ∙ is_i)) ∙ table.stands.homes.cell j y was.1 v
           ];
           journal = home_else g way core new s.homes at_slot home.none few_slots refl (journal_stays g core new refl fewer) table.stands.homes.journal;
         }

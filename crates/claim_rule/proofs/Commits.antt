@@ -22,7 +22,7 @@ use Rattle.claim_rule.specs.declared.views.Slot.TheVariants as slot
 use Rattle.claim_rule.specs.declared.views.Record.{Record}
 use Rattle.claim_rule.specs.declared.views.Terms.{Terms}
 use Rattle.claim_rule.specs.Views.{Content, Seated, view_of, own, setup_of_terms}
-use Rattle.claim_rule.specs.Manners.{by_journal, first_plain}
+use Rattle.claim_rule.specs.Manners.{by_journal, first_slotted}
 use Rattle.claim_rule.specs.Stands.{journal_slot, IsWon, IsStamped, turns_left, IsCoreJournal, HasTaken, HasCommitted, AreWords, AreHomes, KeepsRule}
 use Rattle.claim_rule.specs.Plays.{HoldsZone}
 use Rattle.claim_rule.specs.Commits.{commit_at, with_commit, IsToCommit, stored}
@@ -95,7 +95,7 @@ module _ {D : Type 0} {verdict : D → Shown → Verdict} {z : Terms D} {s : Con
     homes : AreHomes by_journal g new (put_back s.homes carried)
     homes = subst (AreHomes by_journal g new) (sym (ap (put_back s.homes) to.out)) (record {
       count = length-set s.homes (journal_slot z.world) (home.some (slot.Journal to.next)) ∙ table.stands.homes.count;
-      cell = λ i y free value. set_else s.homes (journal_slot z.world) i (home.some (slot.Journal to.next)) (λ q. let lt = slice_get_within core.tags (first_plain by_journal z.world + i) 0 free in omega (arith, q, lt, (counts table).0)) ∙ table.stands.homes.cell i y free (sym (state.free_stays table change place place_is decided (first_plain by_journal z.world + i) free) ∙ value);
+      cell = λ i y free value. set_else s.homes (journal_slot z.world) i (home.some (slot.Journal to.next)) (λ q. let lt = slice_get_within core.tags (first_slotted by_journal z.world + i) 0 free in omega (arith, q, lt, (counts table).0)) ∙ table.stands.homes.cell i y free (sym (state.free_stays table change place place_is decided (first_slotted by_journal z.world + i) free) ∙ value);
       journal = λ none. (to.next, set_here s.homes (journal_slot z.world) (home.some (slot.Journal to.next)) (omega (arith, table.stands.homes.count)), journal_is);
     })
 
@@ -113,7 +113,7 @@ module _ {D : Type 0} {verdict : D → Shown → Verdict} {z : Terms D} {s : Con
       taken = λ h. none-some r.number h;
     }
 
-    same : (k : ℕ) → k < first_plain by_journal z.world → slice_index (set s.words last x) k ≡ slice_index s.words k
+    same : (k : ℕ) → k < first_slotted by_journal z.world → slice_index (set s.words last x) k ≡ slice_index s.words k
     same = journal_else by_journal g s.words x
 
     stamps_stay : (q : Record) → IsStamped g s.words q → IsStamped g (set s.words last x) q

@@ -24,7 +24,7 @@ use Rattle.claim_rule.specs.declared.views.Terms.{Terms}
 use Rattle.claim_rule.specs.declared.views.View.{View}
 use Rattle.claim_rule.specs.Words.{word_tag}
 use Rattle.claim_rule.specs.Views.{Content, setup_of_terms}
-use Rattle.claim_rule.specs.Manners.{CommitWay, after_by, first_plain}
+use Rattle.claim_rule.specs.Manners.{CommitWay, after_by, first_slotted}
 use Rattle.claim_rule.specs.Stands.{cell_tag, HasTaken, HasRecord, Stands}
 use Rattle.claim_rule.specs.Laws.{StateIsDetermined}
 use Rattle.claim_rule.proofs.NextsLemmas.{tags_count}
@@ -74,9 +74,9 @@ module _ {D : Type 0} (verdict : D → Shown → Verdict) (z : Terms D) (way : C
 
   -- a word has one tag,
   same_tag : (one two : State) → Stands verdict z way s one → Stands verdict z way s' two → s.words ≡ s'.words → (k : ℕ) → k < cells z.world → cell_tag one k ≡ cell_tag two k
-  same_tag one two st st' words k inside = elim (cases_lt k (first_plain way z.world)) [
+  same_tag one two st st' words k inside = elim (cases_lt k (first_slotted way z.world)) [
     | inl lt ↦ sym (st.words.node k lt).tag ∙ ap (λ (ws : List ℕ). word_tag (slice_index ws k)) words ∙ (st'.words.node k lt).tag
-    | inr le ↦ sym (st.words.plain k le inside) ∙ ap (λ (ws : List ℕ). slice_index ws k) words ∙ st'.words.plain k le inside
+    | inr le ↦ sym (st.words.slotted k le inside) ∙ ap (λ (ws : List ℕ). slice_index ws k) words ∙ st'.words.slotted k le inside
   ]
 
   -- with the words they determine the state

@@ -20,7 +20,7 @@ use Rattle.claim_rule.specs.declared.views.Slot.{Slot}
 use Rattle.claim_rule.specs.declared.views.Record.{Record}
 use Rattle.claim_rule.specs.declared.views.Terms.{Terms}
 use Rattle.claim_rule.specs.Views.{Content, Seated, view_of, own, setup_of_terms}
-use Rattle.claim_rule.specs.Manners.{by_ticket, next_by, first_plain}
+use Rattle.claim_rule.specs.Manners.{by_ticket, next_by, first_slotted}
 use Rattle.claim_rule.specs.Stands.{turns_left, HasCommitted, AreWords, AreHomes, KeepsRule}
 use Rattle.claim_rule.specs.Plays.{HoldsZone}
 use Rattle.claim_rule.specs.Commits.{Takes, commit_at, with_commit, drew}
@@ -81,7 +81,7 @@ module _ {D : Type 0} {verdict : D → Shown → Verdict} {z : Terms D} {s : Con
     homes : AreHomes by_ticket g new s.homes
     homes = record {
       count = table.stands.homes.count;
-      cell = λ i y free value. table.stands.homes.cell i y free (sym (state.free_stays table change place place_is decided (first_plain by_ticket z.world + i) free) ∙ value);
+      cell = λ i y free value. table.stands.homes.cell i y free (sym (state.free_stays table change place place_is decided (first_slotted by_ticket z.world + i) free) ∙ value);
       journal = refl;
     }
 

@@ -28,7 +28,7 @@ use Rattle.claim_rule.specs.declared.views.Terms.{Terms}
 use Rattle.claim_rule.specs.Views.{Content, Seated, view_of, own, setup_of_terms}
 use Rattle.claim_rule.specs.declared.views.Note.{Note}
 use Rattle.claim_rule.specs.Words.{word_occ, word_stamp}
-use Rattle.claim_rule.specs.Manners.{CommitWay, by_journal, by_ticket, next_by, length_in, first_plain}
+use Rattle.claim_rule.specs.Manners.{CommitWay, by_journal, by_ticket, next_by, length_in, first_slotted}
 use Rattle.claim_rule.specs.Stands.{turns_left, IsWon, IsStampedBy, AreWords, AreHomes, KeepsRule}
 use Rattle.claim_rule.specs.Plays.{IsToRead, mark_of_phase, marked_at, ReadsLength}
 use Rattle.claim_rule.specs.Nexts.{GoesTo, IsAt}
@@ -77,7 +77,7 @@ place_read Releasing n = refl
 place_read Ended n = refl
 
 -- what a record says of nodes' words is so with the mark
-marked_stamped : (way : CommitWay) (g : Setup) (core : State) (words later : List ℕ) → AreWords way g core words → ((k : ℕ) → k < first_plain way g.world → slice_index later k ≡ slice_index words k) → (last : Config) (r : Record) → length r.caller.marks ≡ r.caller.turn
+marked_stamped : (way : CommitWay) (g : Setup) (core : State) (words later : List ℕ) → AreWords way g core words → ((k : ℕ) → k < first_slotted way g.world → slice_index later k ≡ slice_index words k) → (last : Config) (r : Record) → length r.caller.marks ≡ r.caller.turn
     → All (IsHeld g core last r.number r.caller.turn) r.caller.held → IsStampedBy way g words r → IsStampedBy way g later r → IsStampedBy way g later (record r { caller = marked_at g r.caller (length core.journal) })
 marked_stamped by_ticket g core words later are same last r count held was is = tt
 marked_stamped by_journal g core words later are same last r count held was is = record {
@@ -137,10 +137,10 @@ module _ {D : Type 0} {verdict : D → Shown → Verdict} {z : Terms D} {way : C
       homes : AreHomes way g new s.homes
       homes = homes_same way g core new s.homes table.stands.homes (λ k le. refl) refl refl (journal_stays g core new refl fewer)
 
-      same : (k : ℕ) → k < first_plain way z.world → slice_index (set s.words last (slice_index s.words last)) k ≡ slice_index s.words k
+      same : (k : ℕ) → k < first_slotted way z.world → slice_index (set s.words last (slice_index s.words last)) k ≡ slice_index s.words k
       same = journal_else way g s.words (slice_index s.words last)
 
-      alike : (k : ℕ) → k < first_plain way z.world → Alike (slice_index s.words k) (slice_index (set s.words last (slice_index s.words last)) k)
+      alike : (k : ℕ) → k < first_slotted way z.world → Alike (slice_index s.words k) (slice_index (set s.words last (slice_index s.words last)) k)
       alike k lt = (ap word_occ (same k lt), ap word_stamp (same k lt))
 
       still : (q : Record) → IsStampedBy way g s.words q → IsStampedBy way g (set s.words last (slice_index s.words last)) q

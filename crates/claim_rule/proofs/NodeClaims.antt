@@ -35,7 +35,7 @@ use Rattle.claim_rule.specs.declared.views.Record.{Record}
 use Rattle.claim_rule.specs.declared.views.Terms.{Terms}
 use Rattle.claim_rule.specs.Words.{word_tag, word_occ, word_stamp}
 use Rattle.claim_rule.specs.Views.{Content, Seated, view_of, own, with_note, setup_of_terms}
-use Rattle.claim_rule.specs.Manners.{CommitWay, by_journal, first_plain}
+use Rattle.claim_rule.specs.Manners.{CommitWay, by_journal, first_slotted}
 use Rattle.claim_rule.specs.Stands.{cell_tag, turns_left, IsNodeWord, IsWon, AreWon, IsNoted, IsStamped, IsRecord, AreWords, AreHomes, KeepsRule}
 use Rattle.claim_rule.specs.Plays.{IsPlaced, IsKnown, IsOthers, IsToTryNode, IsToWin, with_node, refused_at, note_of, LooksAt, TriesNode}
 use Rattle.claim_rule.specs.Nexts.{GoesTo, IsAt}
@@ -76,7 +76,7 @@ module _ {D : Type 0} {verdict : D → Shown → Verdict} {z : Terms D} {s : Con
     abbrev t : ℕ
     t = own_tag g r.number r.caller.turn
 
-    in_nodes : i < first_plain by_journal z.world
+    in_nodes : i < first_slotted by_journal z.world
     in_nodes = node_number g v i at_i.0
 
     inside : i < length core.tags
@@ -211,7 +211,7 @@ module _ {D : Type 0} {verdict : D → Shown → Verdict} {z : Terms D} {s : Con
       homes : AreHomes by_journal g new s.homes
       homes = homes_same by_journal g core new s.homes table.stands.homes (λ k le. ap (λ ts. slice_get ts k) tags ∙ get-set_else core.tags i k t (λ e. omega (arith, e, le, in_nodes))) refl refl (journal_stays g core new refl fewer)
 
-      alike : (k : ℕ) → k < first_plain by_journal z.world → Alike (slice_index s.words k) (slice_index (set s.words i put) k)
+      alike : (k : ℕ) → k < first_slotted by_journal z.world → Alike (slice_index s.words k) (slice_index (set s.words i put) k)
       alike = alike_written g s.words i put in_words (says.1, says.2)
 
       still : (q : Record) → IsStamped g s.words q → IsStamped g (set s.words i put) q

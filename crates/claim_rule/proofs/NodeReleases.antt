@@ -36,7 +36,7 @@ use Rattle.claim_rule.specs.declared.views.Record.{Record}
 use Rattle.claim_rule.specs.declared.views.Terms.{Terms}
 use Rattle.claim_rule.specs.Words.{occ_number, word_tag, word_occ, word_stamp}
 use Rattle.claim_rule.specs.Views.{Content, Seated, view_of, own, setup_of_terms}
-use Rattle.claim_rule.specs.Manners.{CommitWay, by_journal, first_plain}
+use Rattle.claim_rule.specs.Manners.{CommitWay, by_journal, first_slotted}
 use Rattle.claim_rule.specs.Stands.{turns_left, IsNodeWord, IsWon, AreWon, IsStamped, IsRecord, AreWords, AreHomes, KeepsRule}
 use Rattle.claim_rule.specs.Plays.{but_last, released_caller, but_first, occ_in, IsToFreeNode, ReleasesNode}
 use Rattle.claim_rule.specs.Nexts.{GoesTo, IsAt}
@@ -73,7 +73,7 @@ module _ {D : Type 0} {verdict : D → Shown → Verdict} {z : Terms D} {s : Con
     abbrev t : ℕ
     t = r.caller.turn
 
-    in_nodes : i < first_plain by_journal z.world
+    in_nodes : i < first_slotted by_journal z.world
     in_nodes = node_number g to.node i to.placed.0
 
     inside : i < length core.tags

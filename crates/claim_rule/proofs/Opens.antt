@@ -36,7 +36,7 @@ use Rattle.claim_rule.specs.declared.views.Record.{Record}
 use Rattle.claim_rule.specs.declared.views.Terms.{Terms}
 use Rattle.claim_rule.specs.declared.views.View.{View}
 use Rattle.claim_rule.specs.Views.{record_of, setup_of_terms}
-use Rattle.claim_rule.specs.Manners.{CommitWay, by_journal, by_ticket, first_plain, slot_count}
+use Rattle.claim_rule.specs.Manners.{CommitWay, by_journal, by_ticket, first_slotted, slot_count}
 use Rattle.claim_rule.specs.Stands.{journal_slot, IsNodeWord, IsWon, AreWon, IsStamped, HasCommitted, IsRecord, HasRecord, turns_left, AreViews, Stands, KeepsRule, records_from, first_view}
 use Rattle.claim_rule.specs.Tokens.{FieldOf, IsField}
 use Rattle.claim_rule.specs.Opened.{AreSlotsAtFirst, first_word, first_words}
@@ -162,7 +162,7 @@ module _ {D : Type 0} (verdict : D → Shown → Verdict) (z : Terms D) where
     words = record {
       count = ap (λ (ws : List ℕ). length ws) made ∙ words_count by_ticket z.world;
       node = λ k lt. absurd (omega (arith, lt));
-      plain = λ k le lt.
+      slotted = λ k le lt.
           let there : slice_get (values_of z.world) k ≡ Some (get_or (values_of z.world) k (cell.Spot None)) = slice_get-get_or (values_of z.world) k (cell.Spot None) (let n = length-values z.world in omega (arith, n, lt)) in
           word_at by_ticket words made k (get_or (values_of z.world) k (cell.Spot None)) there ∙ sym (zero_of (values_of z.world) k);
       journal = last_at by_ticket words made;
@@ -170,7 +170,7 @@ module _ {D : Type 0} (verdict : D → Shown → Verdict) (z : Terms D) where
     homes = record {
       count = length-map slots (λ x. home.some x) ∙ ap (λ (xs : List Slot). length xs) first ∙ length-map (values_of z.world) (λ x. slot.Cell x) ∙ length-values z.world;
       cell = λ i x free value.
-          let there : slice_get (values_of z.world) i ≡ Some x = ap (slice_get (values_of z.world)) (let e : i ≡ first_plain by_ticket z.world + i = omega arith in e) ∙ value in
+          let there : slice_get (values_of z.world) i ≡ Some x = ap (slice_get (values_of z.world)) (let e : i ≡ first_slotted by_ticket z.world + i = omega arith in e) ∙ value in
           at_map (λ y. home.some y) slots i (slot.Cell x) (subst (λ (xs : List Slot). get_elem? xs i ≡ home.some (slot.Cell x)) (sym first) (by_either _ i (slot.Cell x) (get-map (λ y. slot.Cell y) (values_of z.world) i x there)));
       journal = refl;
     };
@@ -189,16 +189,16 @@ module _ {D : Type 0} (verdict : D → Shown → Verdict) (z : Terms D) where
             free = λ _. value_of_node z.world k lt ∙ ap (λ q. Some (cell.Spot q)) (sym says.1);
             stamp = (let n = says.2 in omega (arith, n));
           });
-      plain = λ k le lt.
-          let few : k - first_plain by_journal z.world < length z.world.bots = omega (arith, le, lt) in
-          let is : k ≡ first_plain by_journal z.world + (k - first_plain by_journal z.world) = omega (arith, le) in
-          word_at by_journal words made k (held_by z.world (name.Body (k - first_plain by_journal z.world))) (ap (slice_get (values_of z.world)) is ∙ value_of_body z.world (k - first_plain by_journal z.world) few) ∙ sym (zero_of (values_of z.world) k);
+      slotted = λ k le lt.
+          let few : k - first_slotted by_journal z.world < length z.world.bots = omega (arith, le, lt) in
+          let is : k ≡ first_slotted by_journal z.world + (k - first_slotted by_journal z.world) = omega (arith, le) in
+          word_at by_journal words made k (held_by z.world (name.Body (k - first_slotted by_journal z.world))) (ap (slice_get (values_of z.world)) is ∙ value_of_body z.world (k - first_slotted by_journal z.world) few) ∙ sym (zero_of (values_of z.world) k);
       journal = last_at by_journal words made;
     };
     homes = record {
       count = length-map slots (λ x. home.some x) ∙ many;
       cell = λ i x free value.
-          let within = slice_get_within (values_of z.world) (first_plain by_journal z.world + i) x value in
+          let within = slice_get_within (values_of z.world) (first_slotted by_journal z.world + i) x value in
           let few : i < length z.world.bots = (let n = length-values z.world in omega (arith, n, within)) in
           let is : held_by z.world (name.Body i) ≡ x = same_Some _ x (sym (value_of_body z.world i few) ∙ value) in
           at_map (λ y. home.some y) slots i (slot.Cell x) (subst (λ (xs : List Slot). get_elem? xs i ≡ home.some (slot.Cell x)) (sym first.are)

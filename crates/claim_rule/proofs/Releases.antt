@@ -26,11 +26,11 @@ use Rattle.claim_rule.specs.declared.views.Slot.TheVariants as slot
 use Rattle.claim_rule.specs.declared.views.Record.{Record}
 use Rattle.claim_rule.specs.declared.views.Terms.{Terms}
 use Rattle.claim_rule.specs.Views.{Content, Seated, view_of, own, setup_of_terms}
-use Rattle.claim_rule.specs.Manners.{CommitWay, by_journal, by_ticket, next_by, first_plain, slot_of}
+use Rattle.claim_rule.specs.Manners.{CommitWay, by_journal, by_ticket, next_by, first_slotted, slot_of}
 use Rattle.claim_rule.specs.Stands.{IsWon, AreWon, IsStampedBy, turns_left, AreWords, AreHomes, KeepsRule}
 use Rattle.claim_rule.specs.Plays.{but_last, released_caller, IsToFree, Releases}
 use Rattle.claim_rule.specs.Nexts.{GoesTo, IsAt}
-use Rattle.claim_rule.proofs.Tables.{won_behind, plain_written, home_else, stamped_stays}
+use Rattle.claim_rule.proofs.Tables.{won_behind, slotted_written, home_else, stamped_stays}
 use Rattle.claim_rule.proofs.WayLemmas.{shared_by, slot_is, slot_few}
 use Rattle.claim_rule.proofs.NodeReleases.{frees_won}
 use Rattle.claim_rule.specs.Words.{word_occ, word_stamp}
@@ -39,8 +39,8 @@ use Rattle.claim_core.specs.declared.state.Caller.{Caller}
 use Rattle.claim_rule.proofs.Moves.{sound, on, caller_at, counts, moves, my_stamps, journal_stays}
 use Rattle.claim_rule.proofs.NextsLemmas.{turns_same, allowed}
 
--- what a record says of nodes' words is so without a plain cell
-released_stamped : (way : CommitWay) (g : Setup) (words : List ℕ) (r : Record) (n : CellName) (x : Cell) (held : Pairs) (i : ℕ) → number g.world.area n ≡ Some i → first_plain way g.world ≤ i → r.caller.held ≡ (n, x) ∷ held → released_caller g r.caller ≡ freeing_caller g r.caller.turn held r.caller.marks
+-- what a record says of nodes' words is so without a slotted cell
+released_stamped : (way : CommitWay) (g : Setup) (words : List ℕ) (r : Record) (n : CellName) (x : Cell) (held : Pairs) (i : ℕ) → number g.world.area n ≡ Some i → first_slotted way g.world ≤ i → r.caller.held ≡ (n, x) ∷ held → released_caller g r.caller ≡ freeing_caller g r.caller.turn held r.caller.marks
     → IsStampedBy way g words r → IsStampedBy way g words (record r { caller = released_caller g r.caller })
 released_stamped by_journal g words r n x held i e le is_held same is = record {
   won = subst (λ (k : Caller). AreWon (IsWon g words k.turn k.marks) k.held r.won) (sym same) (frees_won g words r.caller.turn held r.caller.marks r.won
@@ -80,14 +80,14 @@ module _ {D : Type 0} {verdict : D → Shown → Verdict} {z : Terms D} {way : C
       at_slot : ℕ
       at_slot = slot_of way z.world.area n
 
-      is_i : first_plain way z.world + at_slot ≡ i
-      is_i = slot_is way z.world n i numbered to.plain
+      is_i : first_slotted way z.world + at_slot ≡ i
+      is_i = slot_is way z.world n i numbered to.slotted
 
-      few_slots : first_plain way z.world + at_slot < cells z.world
+      few_slots : first_slotted way z.world + at_slot < cells z.world
       few_slots = let e = is_i in omega (arith, e, to.inside)
 
       still : (q : Record) → IsStampedBy way g s.words q → IsStampedBy way g (set s.words i 0) q
-      still q = stamped_stays way g s.words (set s.words i 0) (λ k lt. let e = get_or-set_other s.words i k 0 0 (λ c. omega (arith, c, to.plain, lt)) in (ap word_occ e, ap word_stamp e)) q
+      still q = stamped_stays way g s.words (set s.words i 0) (λ k lt. let e = get_or-set_other s.words i k 0 0 (λ c. omega (arith, c, to.slotted, lt)) in (ap word_occ e, ap word_stamp e)) q
 
       inside : i < length core.tags
       inside = omega (arith, to.inside, (counts table).0)
@@ -102,7 +102,7 @@ module _ {D : Type 0} {verdict : D → Shown → Verdict} {z : Terms D} {way : C
       same = ap (λ h. freeing_caller g r.caller.turn (but_last h) r.caller.marks) is_held
 
       mine : IsStampedBy way g (set s.words i 0) (record r { caller = released_caller g r.caller; won = r.won; note = r.note })
-      mine = released_stamped way g (set s.words i 0) r n x held i numbered to.plain is_held same (still r (my_stamps table))
+      mine = released_stamped way g (set s.words i 0) r n x held i numbered to.slotted is_held same (still r (my_stamps table))
 
       callers : new.callers ≡ set core.callers r.number (released_caller g r.caller)
       callers = ap (set core.callers r.number) (sym same)
@@ -114,7 +114,7 @@ module _ {D : Type 0} {verdict : D → Shown → Verdict} {z : Terms D} {way : C
       tags = ap (λ o. put_at core.tags o 0) numbered
 
       words : AreWords way g new (set s.words i 0)
-      words = plain_written way g core new s.words i 0 table.stands.words to.plain to.inside inside tags refl refl refl
+      words = slotted_written way g core new s.words i 0 table.stands.words to.slotted to.inside inside tags refl refl refl
 
       -- the value that the cell has in the state is the one that was recorded
       value : (y : Cell) → at core.values (number z.world.area n) ≡ Some y → x ≡ y
@@ -129,12 +129,12 @@ module _ {D : Type 0} {verdict : D → Shown → Verdict} {z : Terms D} {way : C
       homes : AreHomes way g new (put_back s.homes carried)
       homes = subst (AreHomes way g new) (sym put_is) (record {
         count = length-set s.homes at_slot (home.some (slot.Cell x)) ∙ table.stands.homes.count;
-        cell = λ j y e v. elim (get-set_cases core.tags i (first_plain way z.world + j) 0 0 (ap (λ ts. slice_get ts (first_plain way z.world + j)) (sym tags) ∙ e)) [
+        cell = λ j y e v. elim (get-set_cases core.tags i (first_slotted way z.world + j) 0 0 (ap (λ ts. slice_get ts (first_slotted way z.world + j)) (sym tags) ∙ e)) [
           | inl here ↦
               let same_j : at_slot ≡ j = (let p = here.0 in let q = is_i in omega (arith, p, q)) in
               subst (λ (q : ℕ × Cell). get_elem? (set s.homes at_slot (home.some (slot.Cell x))) q.0 ≡ home.some (home.some (slot.Cell q.1))) (λ l. (same_j l, value y (ap (at core.values) numbered ∙ ap (slice_get core.values) (sym here.0) ∙ v) l))
               (set_here s.homes at_slot (home.some (slot.Cell x)) (let few = slot_few way z.world at_slot few_slots in omega (arith, few, table.stands.homes.count)))
-          | inr was ↦ set_else s.homes at_slot j (home.some (slot.Cell x)) (λ q. was.0 (ap (λ m. first_plain way z.world + m) q ∙ is_i)) ∙ table.stands.homes.cell j y was.1 v
+          | inr was ↦ set_else s.homes at_slot j (home.some (slot.Cell x)) (λ q. was.0 (ap (λ m. first_slotted way z.world + m) q ∙ is_i)) ∙ table.stands.homes.cell j y was.1 v
         ];
         journal = home_else g way core new s.homes at_slot (home.some (slot.Cell x)) few_slots refl (journal_stays g core new refl fewer) table.stands.homes.journal;
       })

@@ -20,7 +20,7 @@ use Rattle.claim_core.specs.Soundness.{IsHeld}
 use Rattle.amoebot_state.proofs.Stays.{slice_get-pushed}
 use Rattle.claim_rule.specs.declared.views.Note.{Note}
 use Rattle.claim_rule.specs.Words.{word_occ, word_stamp}
-use Rattle.claim_rule.specs.Manners.{by_journal, first_plain}
+use Rattle.claim_rule.specs.Manners.{by_journal, first_slotted}
 use Rattle.claim_rule.specs.Stands.{IsWon, AreWon, AreWords}
 use Rattle.claim_rule.proofs.Tables.{node_number}
 
@@ -30,7 +30,7 @@ won_renewed patch F P Q f [] ws all is = is
 won_renewed patch F P Q f ((name.Spot v, x) ∷ held) ws all is = (is.0, is.1, is.2, f v x _ is.0 (All-head F (name.Spot v, x) held all) is.3, won_renewed patch F P Q f held is.1 (All-tail F (name.Spot v, x) held all) is.4)
 won_renewed patch F P Q f ((name.Body i, x) ∷ held) ws all is = won_renewed patch F P Q f held ws (All-tail F (name.Body i, x) held all) is
 
-module _ (g : Setup) (core : State) (words later : List ℕ) (are : AreWords by_journal g core words) (same : (k : ℕ) → k < first_plain by_journal g.world → slice_index later k ≡ slice_index words k) (last : Config) (c t : ℕ) (marks : List Mark) (count : length marks ≡ t) (m : Mark) (place : place_of m ≡ length core.journal) where
+module _ (g : Setup) (core : State) (words later : List ℕ) (are : AreWords by_journal g core words) (same : (k : ℕ) → k < first_slotted by_journal g.world → slice_index later k ≡ slice_index words k) (last : Config) (c t : ℕ) (marks : List Mark) (count : length marks ≡ t) (m : Mark) (place : place_of m ≡ length core.journal) where
   -- the stamp of a node that is held is at most the journal's length
   bound : (v : Node) (x : Cell) (w : Note) → IsHeld g core last c t (name.Spot v, x) → IsWon g words t marks v x w → w.stamp ≤ length core.journal
   bound v x w held is = by (number g.world.area (name.Spot v)) refl

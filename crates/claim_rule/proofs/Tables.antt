@@ -27,9 +27,9 @@ use Rattle.claim_rule.specs.declared.views.View.{View}
 use Rattle.claim_rule.specs.Views.{view_of}
 use Rattle.claim_rule.specs.declared.views.Note.{Note}
 use Rattle.claim_rule.specs.Words.{word_occ, word_stamp}
-use Rattle.claim_rule.specs.Manners.{CommitWay, by_journal, by_ticket, last_word, first_plain}
+use Rattle.claim_rule.specs.Manners.{CommitWay, by_journal, by_ticket, last_word, first_slotted}
 use Rattle.claim_rule.specs.Stands.{cell_tag, journal_slot, IsCoreJournal, IsNodeWord, IsWon, AreWon, IsNoted, IsStamped, IsStampedBy, AreWords, IsJournalHome, AreHomes, HasRecord}
-use Rattle.claim_rule.proofs.WayLemmas.{plain_few}
+use Rattle.claim_rule.proofs.WayLemmas.{slotted_few}
 
 -- the only record of a list of one
 pub only : {A : Type 0} (x y : A) (j : ℕ) → slice_get (x ∷ []) j ≡ Some y → (j ≡ 0) × (x ≡ y)
@@ -59,16 +59,16 @@ won_weaker F P Q f ((name.Spot v, x) ∷ held) ws all is = (is.0, is.1, is.2, f 
 won_weaker F P Q f ((name.Body i, x) ∷ held) ws all is = won_weaker F P Q f held ws (All-tail F (name.Body i, x) held all) is
 
 module _ (g : Setup) where
-  -- a node's number is below that of each plain cell
-  pub node_number : (v : Node) (k : ℕ) → number g.world.area (name.Spot v) ≡ Some k → k < first_plain by_journal g.world
+  -- a node's number is below that of each slotted cell
+  pub node_number : (v : Node) (k : ℕ) → number g.world.area (name.Spot v) ≡ Some k → k < first_slotted by_journal g.world
   node_number v k e = index_below g.world.area v k e
 
-  -- a plain cell is no node that is won
-  pub won_past : (Is : Node → Cell → Note → Type 0) (n : CellName) (x : Cell) (held : Pairs) (ws : List Note) (i : ℕ) → number g.world.area n ≡ Some i → first_plain by_journal g.world ≤ i → AreWon Is held ws → AreWon Is ((n, x) ∷ held) ws
+  -- a slotted cell is no node that is won
+  pub won_past : (Is : Node → Cell → Note → Type 0) (n : CellName) (x : Cell) (held : Pairs) (ws : List Note) (i : ℕ) → number g.world.area n ≡ Some i → first_slotted by_journal g.world ≤ i → AreWon Is held ws → AreWon Is ((n, x) ∷ held) ws
   won_past Is (name.Spot v) x held ws i e le is = (let lt = index_below g.world.area v i e in absurd (omega (arith, lt, le)))
   won_past Is (name.Body b) x held ws i e le is = is
 
-  pub won_behind : (Is : Node → Cell → Note → Type 0) (n : CellName) (x : Cell) (held : Pairs) (ws : List Note) (i : ℕ) → number g.world.area n ≡ Some i → first_plain by_journal g.world ≤ i → AreWon Is ((n, x) ∷ held) ws → AreWon Is held ws
+  pub won_behind : (Is : Node → Cell → Note → Type 0) (n : CellName) (x : Cell) (held : Pairs) (ws : List Note) (i : ℕ) → number g.world.area n ≡ Some i → first_slotted by_journal g.world ≤ i → AreWon Is ((n, x) ∷ held) ws → AreWon Is held ws
   won_behind Is (name.Spot v) x held ws i e le is = (let lt = index_below g.world.area v i e in absurd (omega (arith, lt, le)))
   won_behind Is (name.Body b) x held ws i e le is = is
 
@@ -81,26 +81,26 @@ module _ (g : Setup) where
   home_same by_journal old new homes holder keeps is = λ none. let was = is (sym holder ∙ none) in (was.0, was.1, keeps was.0 was.2)
   home_same by_ticket old new homes holder keeps is = holder ∙ is
 
-  -- and where the slot of a plain cell was taken or put home
-  pub home_else : (way : CommitWay) (old new : State) (homes : List (home.Option Slot)) (k : ℕ) (y : home.Option Slot) → first_plain way g.world + k < cells g.world → new.holder ≡ old.holder → ((j : Kept) → IsCoreJournal g old j → IsCoreJournal g new j) → IsJournalHome way g old homes → IsJournalHome way g new (set homes k y)
+  -- and where the slot of a slotted cell was taken or put home
+  pub home_else : (way : CommitWay) (old new : State) (homes : List (home.Option Slot)) (k : ℕ) (y : home.Option Slot) → first_slotted way g.world + k < cells g.world → new.holder ≡ old.holder → ((j : Kept) → IsCoreJournal g old j → IsCoreJournal g new j) → IsJournalHome way g old homes → IsJournalHome way g new (set homes k y)
   home_else by_journal old new homes k y few holder keeps is = λ none. let was = is (sym holder ∙ none) in (was.0, set_else homes k (journal_slot g.world) y (λ q. omega (arith, q, few)) ∙ was.1, keeps was.0 was.2)
   home_else by_ticket old new homes k y few holder keeps is = holder ∙ is
 
 module _ (way : CommitWay) (g : Setup) where
   -- the words, one of which was written
   pub words_written : (old new : State) (words : List ℕ) (i x : ℕ) → AreWords way g old words → i < cells g.world + 1
-      → (i < first_plain way g.world → IsNodeWord new i x) → (first_plain way g.world ≤ i → i < cells g.world → x ≡ cell_tag new i) → (i ≡ cells g.world → x ≡ last_word way new)
-      → ((k w : ℕ) → k ≢ i → k < first_plain way g.world → IsNodeWord old k w → IsNodeWord new k w) → ((k : ℕ) → k ≢ i → first_plain way g.world ≤ k → k < cells g.world → cell_tag new k ≡ cell_tag old k)
+      → (i < first_slotted way g.world → IsNodeWord new i x) → (first_slotted way g.world ≤ i → i < cells g.world → x ≡ cell_tag new i) → (i ≡ cells g.world → x ≡ last_word way new)
+      → ((k w : ℕ) → k ≢ i → k < first_slotted way g.world → IsNodeWord old k w → IsNodeWord new k w) → ((k : ℕ) → k ≢ i → first_slotted way g.world ≤ k → k < cells g.world → cell_tag new k ≡ cell_tag old k)
       → (i ≢ cells g.world → last_word way new ≡ last_word way old) → AreWords way g new (set words i x)
-  words_written old new words i x is inside node plain last nodes_stay others other_last = record {
+  words_written old new words i x is inside node slotted last nodes_stay others other_last = record {
     count = length-set words i x ∙ is.count;
     node = λ k lt. elim (cases_eq k i) [
       | inl e ↦ subst (IsNodeWord new k) (sym (subst (λ j. get_or (set words i x) j 0 ≡ x) (sym e) (get_or-set_same words i x 0 within))) (subst (λ j. IsNodeWord new j x) (sym e) (node (omega (arith, e, lt))))
       | inr ne ↦ subst (IsNodeWord new k) (sym (get_or-set_other words i k x 0 ne)) (nodes_stay k (slice_index words k) ne lt (is.node k lt))
     ];
-    plain = λ k le lt. elim (cases_eq k i) [
-      | inl e ↦ subst (λ j. get_or (set words i x) j 0 ≡ cell_tag new j) (sym e) (get_or-set_same words i x 0 within ∙ plain (omega (arith, e, le)) (omega (arith, e, lt)))
-      | inr ne ↦ get_or-set_other words i k x 0 ne ∙ is.plain k le lt ∙ sym (others k ne le lt)
+    slotted = λ k le lt. elim (cases_eq k i) [
+      | inl e ↦ subst (λ j. get_or (set words i x) j 0 ≡ cell_tag new j) (sym e) (get_or-set_same words i x 0 within ∙ slotted (omega (arith, e, le)) (omega (arith, e, lt)))
+      | inr ne ↦ get_or-set_other words i k x 0 ne ∙ is.slotted k le lt ∙ sym (others k ne le lt)
     ];
     journal = elim (cases_eq (cells g.world) i) [
       | inl e ↦ subst (λ j. get_or (set words i x) j 0 ≡ last_word way new) (sym e) (get_or-set_same words i x 0 within ∙ last (sym e))
@@ -112,16 +112,16 @@ module _ (way : CommitWay) (g : Setup) where
       within = omega (arith, is.count, inside)
 
   -- the words where a node has another tag, with another word
-  pub node_written : (old new : State) (words : List ℕ) (i t x : ℕ) → AreWords way g old words → i < first_plain way g.world → i < length old.tags → new.tags ≡ set old.tags i t → new.values ≡ old.values → new.journal ≡ old.journal → last_word way new ≡ last_word way old → IsNodeWord new i x
+  pub node_written : (old new : State) (words : List ℕ) (i t x : ℕ) → AreWords way g old words → i < first_slotted way g.world → i < length old.tags → new.tags ≡ set old.tags i t → new.values ≡ old.values → new.journal ≡ old.journal → last_word way new ≡ last_word way old → IsNodeWord new i x
       → AreWords way g new (set words i x)
-  node_written old new words i t x is inside within tags values journal same here = words_written old new words i x is (let few = plain_few way g.world in omega (arith, inside, few)) (λ _. here) (λ le. absurd (omega (arith, le, inside))) (λ e. let few = plain_few way g.world in absurd (omega (arith, e, inside, few)))
+  node_written old new words i t x is inside within tags values journal same here = words_written old new words i x is (let few = slotted_few way g.world in omega (arith, inside, few)) (λ _. here) (λ le. absurd (omega (arith, le, inside))) (λ e. let few = slotted_few way g.world in absurd (omega (arith, e, inside, few)))
       (λ k w ne lt node. node_stays g old new k w (ap (λ ts. slice_index ts k) tags ∙ get_or-set_other old.tags i k t 0 ne) (λ _. ap (λ vs. slice_get vs k) values) (let e = ap (λ (es : List _). length es) journal in omega (arith, e)) node)
       (λ k ne le lt. ap (λ ts. slice_index ts k) tags ∙ get_or-set_other old.tags i k t 0 ne) (λ _. same)
 
-  -- the words where a plain cell has another tag
-  pub plain_written : (old new : State) (words : List ℕ) (i t : ℕ) → AreWords way g old words → first_plain way g.world ≤ i → i < cells g.world → i < length old.tags → new.tags ≡ set old.tags i t → new.values ≡ old.values → new.journal ≡ old.journal → last_word way new ≡ last_word way old
+  -- the words where a slotted cell has another tag
+  pub slotted_written : (old new : State) (words : List ℕ) (i t : ℕ) → AreWords way g old words → first_slotted way g.world ≤ i → i < cells g.world → i < length old.tags → new.tags ≡ set old.tags i t → new.values ≡ old.values → new.journal ≡ old.journal → last_word way new ≡ last_word way old
       → AreWords way g new (set words i t)
-  plain_written old new words i t is low inside within tags values journal same = words_written old new words i t is (omega (arith, inside)) (λ lt. absurd (omega (arith, lt, low)))
+  slotted_written old new words i t is low inside within tags values journal same = words_written old new words i t is (omega (arith, inside)) (λ lt. absurd (omega (arith, lt, low)))
       (λ le lt. sym (ap (λ ts. slice_index ts i) tags ∙ get_or-set_same old.tags i t 0 within)) (λ e. absurd (omega (arith, e, inside)))
       (λ k w ne lt node. node_stays g old new k w (ap (λ ts. slice_index ts k) tags ∙ get_or-set_other old.tags i k t 0 ne) (λ _. ap (λ vs. slice_get vs k) values) (let e = ap (λ (es : List _). length es) journal in omega (arith, e)) node)
       (λ k ne le lt. ap (λ ts. slice_index ts k) tags ∙ get_or-set_other old.tags i k t 0 ne) (λ _. same)
@@ -130,25 +130,25 @@ module _ (way : CommitWay) (g : Setup) where
   pub word_again : (old new : State) (words : List ℕ) (i : ℕ) → AreWords way g old words → i < cells g.world + 1 → new.tags ≡ old.tags → new.values ≡ old.values → new.journal ≡ old.journal → last_word way new ≡ last_word way old → AreWords way g new (set words i (slice_index words i))
   word_again old new words i is inside tags values journal same =
       let stays : (k w : ℕ) → IsNodeWord old k w → IsNodeWord new k w = λ k w. node_stays g old new k w (ap (λ ts. slice_index ts k) tags) (λ _. ap (λ vs. slice_get vs k) values) (let e = ap (λ (es : List _). length es) journal in omega (arith, e)) in
-      words_written old new words i (slice_index words i) is inside (λ lt. stays i (slice_index words i) (is.node i lt)) (λ le lt. is.plain i le lt ∙ ap (λ ts. slice_index ts i) (sym tags))
+      words_written old new words i (slice_index words i) is inside (λ lt. stays i (slice_index words i) (is.node i lt)) (λ le lt. is.slotted i le lt ∙ ap (λ ts. slice_index ts i) (sym tags))
       (λ e. ap (slice_index words) e ∙ is.journal ∙ sym same) (λ k w ne lt. stays k w) (λ k ne le lt. ap (λ ts. slice_index ts k) tags) (λ _. same)
 
   -- where the journal's word was written, and no tag and no value of a free node has changed
   pub journal_written : (old new : State) (words : List ℕ) (x : ℕ) → AreWords way g old words → new.tags ≡ old.tags → ((k : ℕ) → cell_tag old k ≡ 0 → slice_get new.values k ≡ slice_get old.values k) → length old.journal ≤ length new.journal → x ≡ last_word way new → AreWords way g new (set words (cells g.world) x)
   journal_written old new words x is tags values longer same = words_written old new words (cells g.world) x is (omega arith)
-      (λ lt. let few = plain_few way g.world in absurd (omega (arith, lt, few))) (λ le lt. absurd (omega (arith, lt))) (λ _. same)
+      (λ lt. let few = slotted_few way g.world in absurd (omega (arith, lt, few))) (λ le lt. absurd (omega (arith, lt))) (λ _. same)
       (λ k w ne lt node. node_stays g old new k w (ap (λ ts. slice_index ts k) tags) (values k) longer node)
       (λ k ne le lt. ap (λ ts. slice_index ts k) tags) (λ ne. absurd (ne refl))
 
   -- the words of nodes are as before then
-  pub journal_else : (words : List ℕ) (x k : ℕ) → k < first_plain way g.world → slice_index (set words (cells g.world) x) k ≡ slice_index words k
-  journal_else words x k lt = get_or-set_other words (cells g.world) k x 0 (λ e. let few = plain_few way g.world in omega (arith, e, lt, few))
+  pub journal_else : (words : List ℕ) (x k : ℕ) → k < first_slotted way g.world → slice_index (set words (cells g.world) x) k ≡ slice_index words k
+  journal_else words x k lt = get_or-set_other words (cells g.world) k x 0 (λ e. let few = slotted_few way g.world in omega (arith, e, lt, few))
 
-  -- the slots, where the state has the same journal, and no plain cell's tag or value has changed
-  pub homes_same : (old new : State) (homes : List (home.Option Slot)) → AreHomes way g old homes → ((k : ℕ) → first_plain way g.world ≤ k → slice_get new.tags k ≡ slice_get old.tags k) → new.values ≡ old.values → new.holder ≡ old.holder → ((j : Kept) → IsCoreJournal g old j → IsCoreJournal g new j) → AreHomes way g new homes
+  -- the slots, where the state has the same journal, and no slotted cell's tag or value has changed
+  pub homes_same : (old new : State) (homes : List (home.Option Slot)) → AreHomes way g old homes → ((k : ℕ) → first_slotted way g.world ≤ k → slice_get new.tags k ≡ slice_get old.tags k) → new.values ≡ old.values → new.holder ≡ old.holder → ((j : Kept) → IsCoreJournal g old j → IsCoreJournal g new j) → AreHomes way g new homes
   homes_same old new homes is tags values holder keeps = record {
     count = is.count;
-    cell = λ i x free value. is.cell i x (sym (tags (first_plain way g.world + i) (omega arith)) ∙ free) (ap (λ vs. slice_get vs (first_plain way g.world + i)) (sym values) ∙ value);
+    cell = λ i x free value. is.cell i x (sym (tags (first_slotted way g.world + i) (omega arith)) ∙ free) (ap (λ vs. slice_get vs (first_slotted way g.world + i)) (sym values) ∙ value);
     journal = home_same g way old new homes holder keeps is.journal;
   }
 
@@ -158,7 +158,7 @@ module _ (g : Setup) where
   abbrev pub Keeps : List ℕ → List ℕ → CellName × Cell → Type 0
   Keeps words later p = (v : Node) (k : ℕ) → cell_of p ≡ name.Spot v → number g.world.area (name.Spot v) ≡ Some k → Alike (slice_index words k) (slice_index later k)
 
-  pub noted_on : (words later : List ℕ) → ((k : ℕ) → k < first_plain by_journal g.world → Grows (slice_index words k) (slice_index later k)) → (m : Note) → IsNoted g words m → IsNoted g later m
+  pub noted_on : (words later : List ℕ) → ((k : ℕ) → k < first_slotted by_journal g.world → Grows (slice_index words k) (slice_index later k)) → (m : Note) → IsNoted g words m → IsNoted g later m
   noted_on words later grows m n = record {
     least = λ i e. let a = n.least i e in let b = (grows i (node_number g m.node i e)).0 in omega (arith, a, b);
     same = λ i e q.
@@ -168,7 +168,7 @@ module _ (g : Setup) where
         (grows i (node_number g m.node i e)).1 same_stamp ∙ n.same i e (sym same_stamp ∙ q);
   }
 
-  pub stamped_on : (words later : List ℕ) → ((k : ℕ) → k < first_plain by_journal g.world → Grows (slice_index words k) (slice_index later k)) → (r : Record) → All (Keeps words later) r.caller.held → IsStamped g words r → IsStamped g later r
+  pub stamped_on : (words later : List ℕ) → ((k : ℕ) → k < first_slotted by_journal g.world → Grows (slice_index words k) (slice_index later k)) → (r : Record) → All (Keeps words later) r.caller.held → IsStamped g words r → IsStamped g later r
   stamped_on words later grows r all is = record {
     won = won_weaker (Keeps words later) (IsWon g words r.caller.turn r.caller.marks) (IsWon g later r.caller.turn r.caller.marks) (λ v x w keeps p. record {
       node = p.node;
@@ -181,24 +181,24 @@ module _ (g : Setup) where
   }
 
   -- so it is where each word says the same
-  pub stamped_alike : (words later : List ℕ) → ((k : ℕ) → k < first_plain by_journal g.world → Alike (slice_index words k) (slice_index later k)) → (r : Record) → IsStamped g words r → IsStamped g later r
+  pub stamped_alike : (words later : List ℕ) → ((k : ℕ) → k < first_slotted by_journal g.world → Alike (slice_index words k) (slice_index later k)) → (r : Record) → IsStamped g words r → IsStamped g later r
   stamped_alike words later alike r is = stamped_on words later (λ k lt. alike_grows _ _ (alike k lt)) r (All-from_Has (Keeps words later) r.caller.held (λ p has v k e n. alike k (node_number g v k n))) is
 
   -- where one was written
-  pub alike_written : (words : List ℕ) (i x : ℕ) → i < length words → Alike (slice_index words i) x → (k : ℕ) → k < first_plain by_journal g.world → Alike (slice_index words k) (slice_index (set words i x) k)
+  pub alike_written : (words : List ℕ) (i x : ℕ) → i < length words → Alike (slice_index words i) x → (k : ℕ) → k < first_slotted by_journal g.world → Alike (slice_index words k) (slice_index (set words i x) k)
   alike_written words i x inside is k lt = elim (cases_eq k i) [
     | inl e ↦ subst (λ j. Alike (slice_index words j) (slice_index (set words i x) j)) (sym e) (subst (Alike (slice_index words i)) (sym (get_or-set_same words i x 0 inside)) is)
     | inr ne ↦ subst (Alike (slice_index words k)) (sym (get_or-set_other words i k x 0 ne)) (refl, refl)
   ]
 
-  pub grows_written : (words : List ℕ) (i x : ℕ) → i < length words → Grows (slice_index words i) x → (k : ℕ) → k < first_plain by_journal g.world → Grows (slice_index words k) (slice_index (set words i x) k)
+  pub grows_written : (words : List ℕ) (i x : ℕ) → i < length words → Grows (slice_index words i) x → (k : ℕ) → k < first_slotted by_journal g.world → Grows (slice_index words k) (slice_index (set words i x) k)
   grows_written words i x inside is k lt = elim (cases_eq k i) [
     | inl e ↦ subst (λ j. Grows (slice_index words j) (slice_index (set words i x) j)) (sym e) (subst (Grows (slice_index words i)) (sym (get_or-set_same words i x 0 inside)) is)
     | inr ne ↦ subst (Grows (slice_index words k)) (sym (get_or-set_other words i k x 0 ne)) (alike_grows _ _ (refl, refl))
   ]
 
 -- what a record says of nodes' words, by either way
-pub stamped_stays : (way : CommitWay) (g : Setup) (words later : List ℕ) → ((k : ℕ) → k < first_plain way g.world → Alike (slice_index words k) (slice_index later k)) → (r : Record) → IsStampedBy way g words r → IsStampedBy way g later r
+pub stamped_stays : (way : CommitWay) (g : Setup) (words later : List ℕ) → ((k : ℕ) → k < first_slotted way g.world → Alike (slice_index words k) (slice_index later k)) → (r : Record) → IsStampedBy way g words r → IsStampedBy way g later r
 stamped_stays by_journal g words later alike r is = stamped_alike g words later alike r is
 stamped_stays by_ticket g words later alike r is = tt
 

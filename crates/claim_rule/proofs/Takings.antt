@@ -26,7 +26,7 @@ use Rattle.claim_rule.specs.declared.views.Slot.TheVariants as slot
 use Rattle.claim_rule.specs.declared.views.Record.{Record}
 use Rattle.claim_rule.specs.declared.views.Terms.{Terms}
 use Rattle.claim_rule.specs.Views.{Content, Seated, view_of, own, setup_of_terms}
-use Rattle.claim_rule.specs.Manners.{by_journal, first_plain}
+use Rattle.claim_rule.specs.Manners.{by_journal, first_slotted}
 use Rattle.claim_rule.specs.Stands.{journal_slot, turns_left, IsCoreJournal, HasCommitted, AreWords, AreHomes, KeepsRule}
 use Rattle.claim_rule.specs.Plays.{about}
 use Rattle.claim_rule.specs.Commits.{Takes, HasRoomForEntry, IsTakenElsewhere, GotJournal, with_journal, TriesJournal, takes_it, leaves_it}
@@ -156,7 +156,7 @@ module _ {D : Type 0} {verdict : D → Shown → Verdict} {z : Terms D} {s : Con
         homes = record {
           count = length-set s.homes (journal_slot z.world) home.none ∙ table.stands.homes.count;
           cell = λ i x free value.
-              set_else s.homes (journal_slot z.world) i home.none (λ q. let lt = slice_get_within core.tags (first_plain by_journal z.world + i) 0 free in omega (arith, q, lt, (counts table).0)) ∙ table.stands.homes.cell i x free value;
+              set_else s.homes (journal_slot z.world) i home.none (λ q. let lt = slice_get_within core.tags (first_slotted by_journal z.world + i) 0 free in omega (arith, q, lt, (counts table).0)) ∙ table.stands.homes.cell i x free value;
           journal = λ none. absurd (none-some r.number (sym none));
         }
 

@@ -18,7 +18,7 @@ use Rattle.claim_core.specs.Soundness.{IsSetup, Sound}
 use Rattle.claim_core.proofs.Sounds.{always, one_step}
 use Rattle.claim_core.proofs.Unfolding.{ticket_sound, tickets_are_sound}
 use Rattle.claim_core.specs.Tickets.{ticket_by_phase, ticket_acts}
-use Rattle.claim_rule.specs.Manners.{CommitWay, by_journal, by_ticket, next_by, after_by, length_word, length_in, first_plain, has_slot, slot_of, slot_count}
+use Rattle.claim_rule.specs.Manners.{CommitWay, by_journal, by_ticket, next_by, after_by, length_word, length_in, first_slotted, has_slot, slot_of, slot_count}
 
 -- a step that both ways make alike
 abbrev pub IsShared : Phase → Type 0
@@ -77,25 +77,25 @@ pub length_is : (way : CommitWay) (n : ℕ) (o : Option ℕ) → length_in way (
 length_is by_journal n o = half n o
 length_is by_ticket n o = refl
 
--- a plain cell's slot is counted from the first of them on
-pub slot_is : (way : CommitWay) (c : Config) (n : CellName) (i : ℕ) → number c.area n ≡ Some i → first_plain way c ≤ i → first_plain way c + slot_of way c.area n ≡ i
+-- a slotted cell's slot is counted from the first of them on
+pub slot_is : (way : CommitWay) (c : Config) (n : CellName) (i : ℕ) → number c.area n ≡ Some i → first_slotted way c ≤ i → first_slotted way c + slot_of way c.area n ≡ i
 slot_is by_journal c (name.Spot v) i e le = (let lt = index_below c.area v i e in absurd (omega (arith, lt, le)))
-slot_is by_journal c (name.Body b) i e le = same_Some (first_plain by_journal c + b) i e
+slot_is by_journal c (name.Body b) i e le = same_Some (first_slotted by_journal c + b) i e
 slot_is by_ticket c n i e le = (let f = by (number c.area n) e in omega (arith, f))
   where
     by : (o : Option ℕ) → o ≡ Some i → unwrap_or o 0 ≡ i
     by None f = absurd (none-some i f)
     by (Some k) f = same_Some k i f
 
--- and there is a slot for each plain cell
-pub slot_few : (way : CommitWay) (c : Config) (k : ℕ) → first_plain way c + k < cells c → k < slot_count way c
+-- and there is a slot for each slotted cell
+pub slot_few : (way : CommitWay) (c : Config) (k : ℕ) → first_slotted way c + k < cells c → k < slot_count way c
 slot_few by_journal c k lt = omega (arith, lt)
 slot_few by_ticket c k lt = omega (arith, lt)
 
--- the plain cells are behind the nodes
-pub plain_few : (way : CommitWay) (c : Config) → first_plain way c ≤ cells c
-plain_few by_journal c = omega arith
-plain_few by_ticket c = omega arith
+-- the slotted cells are behind the nodes
+pub slotted_few : (way : CommitWay) (c : Config) → first_slotted way c ≤ cells c
+slotted_few by_journal c = omega arith
+slotted_few by_ticket c = omega arith
 
 -- a cell without a slot is a node with a word of its own kind, and such words are there by journal alone
 pub words_of_nodes : (way : CommitWay) (n : CellName) → has_slot way n ≡ false → way ≡ by_journal

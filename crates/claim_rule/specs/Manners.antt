@@ -41,25 +41,25 @@ abbrev pub length_in : CommitWay → ℕ → ℕ
 length_in by_journal t = t / 2
 length_in by_ticket t = t
 
--- the number of the first plain cell, whose word is its tag and whose value has a slot:
--- the cells from it on are plain, and those before it are nodes
-abbrev pub first_plain : CommitWay → Config → ℕ
-first_plain by_journal c = c.area.w * c.area.h
-first_plain by_ticket c = 0
+-- the number of the first slotted cell, whose word is its tag and whose value has a slot:
+-- the cells from it on are slotted, and those before it are nodes
+abbrev pub first_slotted : CommitWay → Config → ℕ
+first_slotted by_journal c = c.area.w * c.area.h
+first_slotted by_ticket c = 0
 
--- a cell is plain
+-- a cell is slotted
 abbrev pub has_slot : CommitWay → CellName → Bool
 has_slot by_journal (name.Spot v) = false
 has_slot by_journal (name.Body i) = true
 has_slot by_ticket n = true
 
--- the number of a plain cell's slot: that of the cell, counted from the first plain one on
+-- the number of a slotted cell's slot: that of the cell, counted from the first slotted one on
 abbrev pub slot_of : CommitWay → Extent → CellName → ℕ
 slot_of by_journal a (name.Spot v) = 0
 slot_of by_journal a (name.Body i) = i
 slot_of by_ticket a n = unwrap_or (number a n) 0
 
--- the number of slots: those of the plain cells, and that of the journal, if it has one
+-- the number of slots: those of the slotted cells, and that of the journal, if it has one
 abbrev pub slot_count : CommitWay → Config → ℕ
 slot_count by_journal c = length c.bots + 1
 slot_count by_ticket c = cells c

@@ -65,7 +65,7 @@ module _ {D : Type 0} (verdict : D → Shown → Verdict) (z : Terms D) (way : C
   MakesItsStep s core i seat r out tells x =
       LeadsTo s (stepped_on core r) i seat (view_of z (r ∷ []), out) tells x
 
-  -- a try to claim a plain cell, which finds its word 0 and puts the tag, or leaves it
+  -- a try to claim a slotted cell, which finds its word 0 and puts the tag, or leaves it
   abbrev pub ClaimIsNext : Type 0
   ClaimIsNext =
       (s : Content D) (core : State) (seat i t slots : ℕ) (r : Record) (out : List (ℕ × Slot))
@@ -75,7 +75,7 @@ module _ {D : Type 0} (verdict : D → Shown → Verdict) (z : Terms D) (way : C
       (Claims verdict way (step slots i 0 t none) (view_of z (r ∷ []), out))
       (either (slice_index s.words i == 0) t (slice_index s.words i))
 
-  -- the release of a plain cell that was won last, which puts 0
+  -- the release of a slotted cell that was won last, which puts 0
   abbrev pub ReleaseIsNext : Type 0
   ReleaseIsNext =
       (s : Content D) (core : State) (seat i slots : ℕ) (r : Record) (out : List (ℕ × Slot))

@@ -23,7 +23,7 @@ use Rattle.claim_rule.specs.Stands.{records_from}
 use Rattle.claim_rule.specs.Seating.{SeatsOf}
 
 -- the words at the start: each that nodes have has the occupant, no tag and stamp 0,
--- and those of the plain cells and of the journal are 0
+-- and those of the slotted cells and of the journal are 0
 abbrev pub first_word : CommitWay → Cell → ℕ
 first_word by_journal (cell.Spot o) = node_word 0 o 0
 first_word by_journal (cell.Body b) = 0

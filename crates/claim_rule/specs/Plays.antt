@@ -30,7 +30,7 @@ use Rattle.claim_rule.specs.declared.views.Note.{Note}
 use Rattle.claim_rule.specs.declared.views.Record.{Record}
 use Rattle.claim_rule.specs.Words.{node_word, word_tag, word_occ, word_stamp}
 use Rattle.claim_rule.specs.Views.{Seated, own, like, with_note, goes_on, setup_at}
-use Rattle.claim_rule.specs.Manners.{CommitWay, length_in, first_plain, slot_of}
+use Rattle.claim_rule.specs.Manners.{CommitWay, length_in, first_slotted, slot_of}
 
 -- a cell of the area or of an amoebot that is there, by its number
 abbrev pub IsPlaced : Setup → CellName → ℕ → Type 0
@@ -139,15 +139,15 @@ module _ {D : Type 0} (verdict : D → Shown → Verdict) where
   abbrev pub tried : View D → CellName
   tried v = unwrap_or (next_of (about v) (bot_in v) (own v).caller.held) (name.Body 0)
 
-  -- the caller tries the plain cell with this number next, for its turn's tag
+  -- the caller tries the slotted cell with this number next, for its turn's tag
   pub record IsToTry (way : CommitWay) (i t : ℕ) (v : View D) : Type 0 where
     pub phase : (own v).caller.phase ≡ Claim
     pub next : next_of (about v) (bot_in v) (own v).caller.held ≡ Some (tried v)
     pub placed : IsPlaced (about v) (tried v) i
-    pub plain : first_plain way (about v).world ≤ i
+    pub slotted : first_slotted way (about v).world ≤ i
     pub tag : t ≡ own_tag (about v) (own v).number (own v).caller.turn
 
-  -- the plain cell that the caller tried is won with its value, and its slot is out
+  -- the slotted cell that the caller tried is won with its value, and its slot is out
   pub record Wins (way : CommitWay) (m m' : Seated D) : Type 0 where
     pub value : Cell
     pub now : m'.0
@@ -243,11 +243,11 @@ module _ {D : Type 0} (verdict : D → Shown → Verdict) where
       } ∷ []))
       × (m'.1 ≡ m.1)
 
-  -- the plain cell with this number was won last, and the seat has its value to put home
+  -- the slotted cell with this number was won last, and the seat has its value to put home
   pub record IsToFree (way : CommitWay) (i : ℕ) (m : Seated D) : Type 0 where
     pub phase : (own m.0).caller.phase ≡ Releasing
     pub inside : i < cells (about m.0).world
-    pub plain : first_plain way (about m.0).world ≤ i
+    pub slotted : first_slotted way (about m.0).world ≤ i
     pub last : (n : CellName) × (x : Cell) × (held : Pairs) × (more : List (ℕ × Slot))
         × ((own m.0).caller.held ≡ (n, x) ∷ held)
         × (number (about m.0).world.area n ≡ Some i)

@@ -33,7 +33,7 @@ use Rattle.claim_rule.specs.declared.views.Terms.{Terms}
 use Rattle.claim_rule.specs.declared.views.View.{View}
 use Rattle.claim_rule.specs.Words.{word_tag, word_occ, word_stamp}
 use Rattle.claim_rule.specs.Views.{Content, record_of, view_of, setup_of_terms}
-use Rattle.claim_rule.specs.Manners.{CommitWay, by_journal, by_ticket, after_by, last_word, first_plain, slot_count}
+use Rattle.claim_rule.specs.Manners.{CommitWay, by_journal, by_ticket, after_by, last_word, first_slotted, slot_count}
 
 -- the tag of the cell with this number
 abbrev pub cell_tag : State → ℕ → ℕ
@@ -81,8 +81,8 @@ pub record IsNodeWord (core : State) (k w : ℕ) : Type 0 where
 -- the words of the cells by their numbers, and that of the journal behind them
 pub record AreWords (way : CommitWay) (g : Setup) (core : State) (words : List ℕ) : Type 0 where
   pub count : length words ≡ cells g.world + 1
-  pub node : (k : ℕ) → k < first_plain way g.world → IsNodeWord core k (slice_index words k)
-  pub plain : (k : ℕ) → first_plain way g.world ≤ k
+  pub node : (k : ℕ) → k < first_slotted way g.world → IsNodeWord core k (slice_index words k)
+  pub slotted : (k : ℕ) → first_slotted way g.world ≤ k
       → k < cells g.world → slice_index words k ≡ cell_tag core k
   pub journal : slice_index words (cells g.world) ≡ last_word way core
 
@@ -95,13 +95,13 @@ IsJournalHome by_journal g core homes =
     × IsCoreJournal g core j
 IsJournalHome by_ticket g core homes = core.holder ≡ None
 
--- the slots of the plain cells, and that of the journal behind them:
+-- the slots of the slotted cells, and that of the journal behind them:
 -- a free cell's is at home with its value
 pub record AreHomes (way : CommitWay) (g : Setup) (core : State)
     (homes : List (home.Option Slot)) : Type 0 where
   pub count : length homes ≡ slot_count way g.world
-  pub cell : (i : ℕ) (x : Cell) → slice_get core.tags (first_plain way g.world + i) ≡ Some 0
-      → slice_get core.values (first_plain way g.world + i) ≡ Some x
+  pub cell : (i : ℕ) (x : Cell) → slice_get core.tags (first_slotted way g.world + i) ≡ Some 0
+      → slice_get core.values (first_slotted way g.world + i) ≡ Some x
       → get_elem? homes i ≡ home.some (home.some (slot.Cell x))
   pub journal : IsJournalHome way g core homes
 
@@ -137,7 +137,7 @@ pub record IsStamped (g : Setup) (words : List ℕ) (r : Record) : Type 0 where
   pub won : AreWon (IsWon g words r.caller.turn r.caller.marks) r.caller.held r.won
   pub noted : (m : Note) → r.note ≡ Some m → IsNoted g words m
 
--- so it is where nodes have words; by tickets they have none, and each cell is plain
+-- so it is where nodes have words; by tickets they have none, and each cell is slotted
 abbrev pub IsStampedBy : CommitWay → Setup → List ℕ → Record → Type 0
 IsStampedBy by_journal g words r = IsStamped g words r
 IsStampedBy by_ticket g words r = Unit {0}

@@ -88,7 +88,7 @@ refused_of c t n by place = record {
 abbrev pub placed_turn : ℕ → ℕ → ℕ → PlacedTurn
 placed_turn c t place = record { caller = c; turn = t; place = place }
 
--- the slots of the plain cells that are held are out, each with the value that is held,
+-- the slots of the slotted cells that are held are out, each with the value that is held,
 -- except where they are stale
 abbrev pub AreOut : CommitWay → Extent → Bool → Pairs → List (ℕ × Slot) → Type 0
 AreOut way a stale [] outs = outs ≡ []
@@ -164,7 +164,7 @@ module _ {D : Type 0} where
 
   module _ (verdict : D → Shown → Verdict) where
     -- what a field keeps: it is about something that may be run,
-    -- and has a word for each cell and for the journal, and a slot for each plain cell
+    -- and has a word for each cell and for the journal, and a slot for each slotted cell
     -- and for the journal, if it has one
     pub record IsField (way : CommitWay) (f : FieldOf D) (d : D) (w : Config) : Type 0 where
       pub run : IsSetup (setup_of_terms verdict f.terms)
@@ -202,7 +202,7 @@ module _ {D : Type 0} where
 
     -- what every activation keeps: the seat has the record of one caller in this turn of its list,
     -- which holds these cells, with their values, and won the nodes among them that have words
-    -- with what these notes say; the slots of the plain cells among them are out, and stale or not
+    -- with what these notes say; the slots of the cells with one are out, and stale or not
     pub record IsActivation (way : CommitWay) (m : Seated D)
         (c t b : ℕ) (stale : Bool) (w : Config) (pairs : Pairs)
         (notes : List Note) : Type 0 where

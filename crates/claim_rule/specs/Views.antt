@@ -30,8 +30,8 @@ abbrev pub with_note : Record → Option Note → Record
 with_note r o = record r { note = o }
 
 -- the record without what it says of nodes' words
-abbrev pub plain_record : Record → Record
-plain_record r = record r { won = []; note = None }
+abbrev pub bare_record : Record → Record
+bare_record r = record r { won = []; note = None }
 
 -- the first record; that of nobody, where there is none
 abbrev pub first_record : List Record → Record
@@ -70,7 +70,7 @@ module _ {D : Type 0} where
 
   -- the view as contracts see it: without what it knows of nodes' words
   abbrev pub seen : View D → View D
-  seen v = like v (plain_record (own v) ∷ [])
+  seen v = like v (bare_record (own v) ∷ [])
 
   -- the view where its caller has come on
   abbrev pub goes_on : View D → Caller → View D

@@ -26,7 +26,7 @@ use std::alloc::Global;
 use std::marker::Model;
 
 /// The words and slots that the callers of a run share: a word for each cell and for the journal,
-/// and a slot for each plain cell and for the journal, if it has one.
+/// and a slot for each slotted cell and for the journal, if it has one.
 /// It is seen as its table and what it is about: the decider, the first world and the lists.
 #[derive(Drop)]
 pub struct Field<'d, D: Decider, W: Manner = ByJournal> {

@@ -76,7 +76,7 @@ pub fn begin<D: Decider, W: Manner>(seat: Seat<D, W>, turn: u32, bot: u16) -> He
 /// The claim of the next cell of the zone.
 /// It is won with its value where nobody held it; else another caller's tag was found,
 /// and the turn claims no more.
-/// A plain cell is claimed by one try.
+/// A slotted cell is claimed by one try.
 /// The word of a node is looked at, and tried while it is found free and changed:
 /// each such try finds a greater stamp.
 pub fn win<D: Decider, W: Manner>(

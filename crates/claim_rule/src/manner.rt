@@ -14,11 +14,11 @@ pub trait Manner: Sized {
     fn length(word: u64) -> u64
         ensures { result ≡ length_in way word };
 
-    /// Whether a cell is plain: its word is its tag, and its value has a slot.
+    /// Whether a cell is slotted: its word is its tag, and its value has a slot.
     fn has_slot(cell: CellName) -> bool
         ensures { result ≡ has_slot way cell };
 
-    /// The number of a plain cell's slot, where `cell_number` is that of the cell.
+    /// The number of a slotted cell's slot, where `cell_number` is that of the cell.
     fn slot(cell: CellName, cell_number: usize) -> usize
         ensures { (a : Extent) → number a cell ≡ Some cell_number
             → has_slot way cell ≡ true → result ≡ slot_of way a cell };

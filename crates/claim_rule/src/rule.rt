@@ -42,7 +42,7 @@ impl<D: Decider> Play<Slot, View<D>> for FreeNode {
     ghost then = { ReleasesNode D.verdict };
 }
 
-/// A try to claim a plain cell.
+/// A try to claim a slotted cell.
 pub(crate) struct Claim<W> {
     marker: PhantomData<W>,
 }
@@ -51,7 +51,7 @@ impl<D: Decider, W: Manner> Play<Slot, View<D>> for Claim<W> {
     ghost then = { Claims D.verdict W.way };
 }
 
-/// The release of the plain cell that was won last.
+/// The release of the slotted cell that was won last.
 pub(crate) struct Free;
 
 impl<D: Decider> Play<Slot, View<D>> for Free {

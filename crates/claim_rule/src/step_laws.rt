@@ -23,12 +23,12 @@ pub fn node_release_is_next<D: Decider>(_decider: &D)
     ensures { (z : Terms D) → NodeReleaseIsNext D.verdict z }
 {}
 
-/// A try to claim a plain cell, which is a body, or by tickets a node: won or refused.
+/// A try to claim a slotted cell, which is a body, or by tickets a node: won or refused.
 pub fn claim_is_next<D: Decider>(_decider: &D)
     ensures { (way : CommitWay) (z : Terms D) → ClaimIsNext D.verdict z way }
 {}
 
-/// The release of the plain cell that was won last.
+/// The release of the slotted cell that was won last.
 pub fn release_is_next<D: Decider>(_decider: &D)
     ensures { (way : CommitWay) (z : Terms D) → ReleaseIsNext D.verdict z way }
 {}

@@ -53,7 +53,7 @@ impl Tag {
     }
 }
 
-/// What a turn is told whose zone had a cell that another caller held.
+/// The answer to a turn whose zone had a cell that another caller held.
 #[derive(Drop)]
 pub struct Refused<W = ByJournal> {
     seen: Seen<W>,

@@ -21,7 +21,7 @@ use Rattle.amoebot_state.specs.Occupied.{occupied}
 use Rattle.amoebot_state.specs.Pairs.{cell_of, cell_value, plain_patch}
 use Rattle.amoebot_state.specs.Steps.{Step, plain_entry}
 use Rattle.amoebot_state.proofs.Faults.{frame_valid, valid_one}
-use Rattle.amoebot_state.proofs.Occupants.{plain_in}
+use Rattle.amoebot_state.proofs.Occupants.{in_range_of}
 use Rattle.action_meaning.specs.Verdicts.{verdict_shown}
 use Rattle.shape_files.specs.declared.section_kind.Form.TheVariants as form
 use Rattle.small_worlds.specs.Rows.{row_area, node}
@@ -77,7 +77,7 @@ its_election = record {
 -- ---- the only step
 
 leader_is_valid : IsValid one_leader
-leader_is_valid = valid_one erosion_row (frame_valid erosion_row is_area refl) (candidate_bot 1) (plain_in row_area is_area (candidate_bot 1) refl refl (omega arith) refl) refl
+leader_is_valid = valid_one erosion_row (frame_valid erosion_row is_area refl) (candidate_bot 1) (in_range_of row_area is_area (candidate_bot 1) refl refl (omega arith) refl) refl
 
 same_ids : (i : ℕ) → is_some (bot_at one_leader i) ≡ is_some (bot_at one_candidate i)
 same_ids zero = refl

@@ -9,7 +9,7 @@ use Rattle.amoebot_state.specs.Configs.{Config, IsValid, bot_at, occupant}
 use Rattle.amoebot_state.specs.Steps.{plain_entry}
 use Rattle.serial_model.specs.Replays.{RunIn}
 use Rattle.amoebot_state.proofs.Faults.{frame_valid, valid_one}
-use Rattle.amoebot_state.proofs.Occupants.{plain_in}
+use Rattle.amoebot_state.proofs.Occupants.{in_range_of}
 use Rattle.model_ops.proofs.ActsDecide.{acts_keep_decider_laws}
 use Rattle.claim_core.specs.Turns.{IsList}
 use Rattle.claim_core.specs.Good.{Good}
@@ -49,7 +49,7 @@ abbrev g : Setup
 g = setup (verdict_shown out) one_alone one_list
 
 pub valid : IsValid one_alone
-valid = valid_one row_frame (frame_valid row_frame is_area refl) (bot_in_row 1 1) (plain_in row_area is_area (bot_in_row 1 1) refl refl (omega arith) refl) refl
+valid = valid_one row_frame (frame_valid row_frame is_area refl) (bot_in_row 1 1) (in_range_of row_area is_area (bot_in_row 1 1) refl refl (omega arith) refl) refl
 
 only_bot : All (IsThereIn one_alone) (0 ∷ [])
 only_bot = All-cons (IsThereIn one_alone) 0 [] refl (All-nil (IsThereIn one_alone))

@@ -11,7 +11,7 @@ use Rattle.tri_lattice.proofs.Paths.{Joined-first, Joined-trans, Joined-sym}
 use Rattle.amoebot_state.specs.Configs.{IsValid}
 use Rattle.amoebot_state.specs.Occupied.{occupied}
 use Rattle.amoebot_state.proofs.Faults.{frame_valid, valid_one}
-use Rattle.amoebot_state.proofs.Occupants.{plain_in}
+use Rattle.amoebot_state.proofs.Occupants.{in_range_of}
 use Rattle.shape_checks.specs.Hexagons.{IsHexagon}
 use Rattle.shape_checks.specs.Laws.{HexagonsAreConnected, OneAloneIsHexagon}
 use Rattle.small_worlds.specs.Rows.{row_area, row_frame, node, bot_in_row}
@@ -32,7 +32,7 @@ nobody_is_measured = record {
 -- ---- one amoebot alone
 
 one_valid : IsValid one_alone
-one_valid = valid_one row_frame (frame_valid row_frame is_area refl) (bot_in_row 1 1) (plain_in row_area is_area (bot_in_row 1 1) refl refl (omega arith) refl) refl
+one_valid = valid_one row_frame (frame_valid row_frame is_area refl) (bot_in_row 1 1) (in_range_of row_area is_area (bot_in_row 1 1) refl refl (omega arith) refl) refl
 
 pub one_is_measured : HexagonsAreConnected → OneAloneIsHexagon → IsMeasureText one_alone (codes "bots 1\nconnected yes\nhexagon yes\n")
 unfolding digits

@@ -61,8 +61,8 @@ pub record ReplayIsDecided {E : Type 0} (form : Entry → E) : Type 0 where
       → IsValid start
       → AgreesIn form f start told final ⊎ ((place : ℕ) × DiffersAt form f start told final place)
 
--- Of entries in a form: rounds are told in one way.
--- Entries from a valid shape without gaps that agree have rounds that are told.
+-- Entries in a form have one number of rounds, and one of amoebots that wait.
+-- Entries from a valid shape without gaps that agree have both numbers.
 pub record RoundsAreDecided {E : Type 0} (form : Entry → E) : Type 0 where
   pub one : (f : Shown → Verdict) (start final : Config) (told : List E) (rounds waiting others still : ℕ)
       → CountedIn form f start told final rounds waiting

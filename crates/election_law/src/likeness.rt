@@ -51,14 +51,14 @@ pub(crate) fn only_term(sum: &Sum) -> Option<&Term>
 {
     let parts = sum.parts.as_slice();
     if parts.len() == 1 {
-        plain_term(&parts[0])
+        simple_term(&parts[0])
     } else {
         None
     }
 }
 
 /// The term of a part without a minus.
-fn plain_term(part: &Part) -> Option<&Term>
+fn simple_term(part: &Part) -> Option<&Term>
     ensures some { IfSome result (λ term.
         view.part_of part.now ≡ record { minus = false; term = view.term_of term.now }) }
     ensures none { IfNone result ((view.part_of part.now).minus ≡ true) }

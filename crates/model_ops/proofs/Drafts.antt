@@ -23,7 +23,7 @@ use Rattle.amoebot_state.specs.Zones.{Shown, IsShown, shown, shown_alone, zone}
 use Rattle.amoebot_state.proofs.Fronts.{Has-from_slice_get}
 use Rattle.amoebot_state.proofs.Known.{shown_lists_zone, shown_holds_values}
 use Rattle.amoebot_state.proofs.Members.{Has, Has-map, Contains-from_Has}
-use Rattle.amoebot_state.proofs.Occupants.{plain_bot}
+use Rattle.amoebot_state.proofs.Occupants.{bot_in_range}
 use Rattle.amoebot_state.proofs.Options.{there_is}
 use Rattle.amoebot_state.proofs.ShownAlone.{alone_has}
 use Rattle.model_ops.specs.Behinds.{owner_there}
@@ -62,17 +62,17 @@ own_found s own at =
     ap (λ o. made (set c.bots s.bot o)) (sym at) ∙ ap made (set-get_or c.bots s.bot None)
 
 pub own_first : (s : Shown) (own : Bot) → Some own ≡ bot_at (shown_alone s) s.bot → IsBotInRange own → IsOwn s own
-own_first s own at plain = record { found = own; at = sym at; memory = refl; plain = plain }
+own_first s own at in_range = record { found = own; at = sym at; memory = refl; in_range = in_range }
 
 -- and so it is with another memory
 pub own_with : (s : Shown) (own b : Bot) (x k : ℕ) → IsOwn s own → b ≡ with_value own x k → IsBotInRange b → IsOwn s b
-own_with s own b x k is same plain = record {
+own_with s own b x k is same in_range = record {
   found = is.found;
   at = is.at;
   memory =
       let again : Bot → Bot = λ y. record is.found { mem = y.mem } in
       same ∙ ap (λ (y : Bot). with_value y x k) is.memory ∙ ap again (sym same);
-  plain = plain;
+  in_range = in_range;
 }
 
 -- a write of the own memory
@@ -150,4 +150,4 @@ body_listed s cells k i b d (c, valid, mine, e) these lt told =
     let body : value c (name.Body i) ≡ Some (cell.Body b) = subst (λ (q : CellName × Cell). value c (cell_of q) ≡ Some (cell_value q)) is holds in
     let there : bot_at c i ≡ Some b = held (bot_at c i) b body in
     let named : Has (name.Body i) (zone c s.bot) = subst (Has (name.Body i)) (shown_lists_zone c s.bot) (subst (λ (q : CellName × Cell). Has (cell_of q) (map cell_of those)) is (Has-map cell_of has)) in
-    (ap (λ (t : Shown). bot_at (shown_alone t) i) (sym e) ∙ alone_has c s.bot i named ∙ there, plain_bot c valid i b there)
+    (ap (λ (t : Shown). bot_at (shown_alone t) i) (sym e) ∙ alone_has c s.bot i named ∙ there, bot_in_range c valid i b there)

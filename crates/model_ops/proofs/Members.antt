@@ -237,12 +237,12 @@ found_with_now c ms k d b =
 module _ (c : Config) (own : ℕ) (ms : List Member) (i k : ℕ) (d : Member) (b : Bot) (found : position (λ (m : Member). nat_eq m.id i) ms ≡ Some k) where
   -- a site stays one
   pub site_with_now : IsSite c own ms → IsBotInRange b → IsSite c own (set ms k (with_now (get_or ms k d) b))
-  site_with_now is plain =
+  site_with_now is in_range =
       let same = sym (found_with_now c ms k d b) in
       record {
         apart = apart_with_now ms k d b is.apart;
         first = first_with_now own ms k d b is.first;
-        plain = All-set (λ (m : Member). IsBotInRange m.now) ms k (with_now (get_or ms k d) b) plain is.plain;
+        in_range = All-set (λ (m : Member). IsBotInRange m.now) ms k (with_now (get_or ms k d) b) in_range is.in_range;
         there = ap (λ (e : Config). is_some (bot_at e own)) (set_bot_of c ms i k d b found) ∙ same_ids (config_now c ms) i (get_or ms k d).now b (bot_placed (λ (m : Member). m.now) c ms i k d found) own ∙ is.there;
         few = subst (λ n. n ≤ 9) (sym (length-set ms k (with_now (get_or ms k d) b))) is.few;
         was_shown = subst (λ (e : Config). IsShown (shown e own)) same is.was_shown;
@@ -268,4 +268,4 @@ near_site c own ms v is inside =
     near_in c.area v (subst IsArea area is.was_shown.1.area) inside
 
 pub near_own : (b : Bot) (v : Node) → IsBotInRange b → is_own b v ≡ true → IsNear v
-near_own b v plain own = elim (own_cases b v own) [ inl h ↦ subst IsNear h plain.head | inr t ↦ subst IsNear t plain.tail ]
+near_own b v in_range own = elim (own_cases b v own) [ inl h ↦ subst IsNear h in_range.head | inr t ↦ subst IsNear t in_range.tail ]

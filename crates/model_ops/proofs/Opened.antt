@@ -25,7 +25,7 @@ use Rattle.amoebot_state.proofs.Counts.{zone_has_at_most_nine_bodies}
 use Rattle.amoebot_state.proofs.Known.{shown_lists_zone, shown_holds_values}
 use Rattle.amoebot_state.proofs.ShownAlone.{alone_own, alone_shows}
 use Rattle.amoebot_state.proofs.Members.{Has, here, later, Contains-from_Has, All-from_Has, filter_map_has}
-use Rattle.amoebot_state.proofs.Occupants.{plain_bot}
+use Rattle.amoebot_state.proofs.Occupants.{bot_in_range}
 use Rattle.amoebot_state.proofs.Once.{Once, once_parts, zone_once}
 use Rattle.amoebot_state.proofs.Options.{there_is}
 use Rattle.model_ops.specs.declared.member.Member.{Member}
@@ -102,13 +102,13 @@ module _ (c : Config) (i : ℕ) (b : Bot) (valid : IsValid c) (at : bot_at c i �
   shows_is : shown (config_found (shown_alone (shown c i)) those) i ≡ shown c i
   shows_is = ap (λ (d : Config). shown d i) found_is ∙ alone_shows c i b valid at
 
-  plain : (m : Member) → Has m those → IsBotInRange m.now
-  plain m has =
+  in_range : (m : Member) → Has m those → IsBotInRange m.now
+  in_range m has =
       let (p, listed, e) = filter_map_has taken (shown c i).cells has in
       let told = taken_told p m e in
       let holds = All-contains (λ (q : CellName × Cell). value c (cell_of q) ≡ Some (cell_value q)) (shown c i).cells p (shown_holds_values c i) (Contains-from_Has (shown c i).cells listed) in
       let body : value c (name.Body m.id) ≡ Some (cell.Body m.found) = subst (λ (q : CellName × Cell). value c (cell_of q) ≡ Some (cell_value q)) told.0 holds in
-      subst IsBotInRange (sym told.1) (plain_bot c valid m.id m.found (held (bot_at c m.id) m.found body))
+      subst IsBotInRange (sym told.1) (bot_in_range c valid m.id m.found (held (bot_at c m.id) m.found body))
 
   -- the own body is the first cell
   own_first : IsFirst i (filter_map taken (filter_map (shown_cell c) (zone_at c.area (occupant c) i (Some b))))
@@ -122,7 +122,7 @@ module _ (c : Config) (i : ℕ) (b : Bot) (valid : IsValid c) (at : bot_at c i �
   site_gathered = record {
     apart = apart_taken (shown c i).cells (subst Once (sym (shown_lists_zone c i)) (zone_once c i));
     first = first;
-    plain = All-from_Has (λ (m : Member). IsBotInRange m.now) those plain;
+    in_range = All-from_Has (λ (m : Member). IsBotInRange m.now) those in_range;
     there = ap (λ (d : Config). is_some (bot_at d i)) now_is ∙ ap is_some (alone_own c i b at);
     few =
         let fit = length-taken-le (shown c i).cells in

@@ -10,7 +10,7 @@ use Rattle.amoebot_state.specs.declared.bot.End.TheVariants as end
 use Rattle.amoebot_state.specs.Configs.{Config, IsValid}
 use Rattle.amoebot_state.specs.Occupied.{occupied}
 use Rattle.amoebot_state.proofs.ExampleLemmas.{expanded, contracted, world}
-use Rattle.amoebot_state.proofs.StepExamples.{plain, two_valid}
+use Rattle.amoebot_state.proofs.StepExamples.{in_range, two_valid}
 use Rattle.model_ops.specs.Laws.{UnguardedSplits}
 
 -- an expanded amoebot beside a contracted one, whose tail is the node between them; and without that node
@@ -24,7 +24,7 @@ joined_valid : IsValid joined
 joined_valid =
     let one = expanded right_node middle in
     let two = contracted left_node in
-    two_valid one two (plain one refl refl (omega arith) refl) (plain two refl refl (omega arith) refl) refl refl
+    two_valid one two (in_range one refl refl (omega arith) refl) (in_range two refl refl (omega arith) refl) refl refl
 
 joined_nodes : SameNodes chain (occupied joined)
 joined_nodes v = elim (cases_Bool (node_eq left_node v)) [

@@ -27,4 +27,4 @@ pub record IsOwn (s : Shown) (own : Bot) : Type 0 where
   pub found : Bot
   pub at : bot_at (shown_alone s) s.bot ≡ Some found
   pub memory : own ≡ record found { mem = own.mem }
-  pub plain : IsBotInRange own
+  pub in_range : IsBotInRange own

@@ -67,7 +67,7 @@ most_members = 9
 pub record IsSite (c : Config) (own : ℕ) (ms : List Member) : Type 0 where
   pub apart : AreApart ms
   pub first : IsFirst own ms
-  pub plain : All (λ (m : Member). IsBotInRange m.now) ms
+  pub in_range : All (λ (m : Member). IsBotInRange m.now) ms
   pub there : IsSome (bot_at (config_now c ms) own)
   pub few : length ms ≤ most_members
   pub was_shown : IsShown (shown (config_found c ms) own)

@@ -239,7 +239,7 @@ impl Draft {
     /// The amoebot itself, as it is now.
     pub fn own(&self) -> &Bot
         ensures value { bot_at self.now.reached (own_id self.now) ≡ Some result.now }
-        ensures plain { IsBotInRange result.now }
+        ensures in_range { IsBotInRange result.now }
     {
         &self.members[0].now
     }
@@ -249,7 +249,7 @@ impl Draft {
     pub(crate) fn bot(&self, id: u16) -> &Bot
         requires { IsSome (bot_at self.now.reached id) }
         ensures value { bot_at self.now.reached id ≡ Some result.now }
-        ensures plain { IsBotInRange result.now }
+        ensures in_range { IsBotInRange result.now }
     {
         let place = place_of(self.members.as_slice(), id);
         &self.members[place].now
@@ -385,7 +385,7 @@ impl Draft {
     /// Puts another amoebot in the place of the one with an id.
     pub fn put(&mut self, id: u16, bot: Bot)
         requires there { IsSome (bot_at self.old.reached id) }
-        requires plain { IsBotInRange bot }
+        requires in_range { IsBotInRange bot }
         ensures { self.new ≡ record self.old { reached = set_bot self.old.reached id bot } }
     {
         let place = place_of(self.members.as_slice(), id);

@@ -16,9 +16,9 @@ const FIRST_BEHIND: usize = 8;
 #[inline(always)]
 pub(crate) fn body_near<'a>(found: &'a Found, own: &'a Bot, id: u16, port: Port) -> &'a Bot
     requires there { IsSome (bot_at (shown_alone found.now) id) }
-    requires plain { IsBotInRange own.now }
+    requires in_range { IsBotInRange own.now }
     ensures value { bot_at (with_own found.now own.now) id ≡ Some result.now }
-    ensures plain { IsBotInRange result.now }
+    ensures in_range { IsBotInRange result.now }
 {
     if id == found.bot() {
         own
@@ -33,7 +33,7 @@ pub(crate) fn body_near<'a>(found: &'a Found, own: &'a Bot, id: u16, port: Port)
 fn found_near(found: &Found, id: u16, place: usize) -> &Bot
     requires { IsSome (bot_at (shown_alone found.now) id) }
     ensures value { bot_at (shown_alone found.now) id ≡ Some result.now }
-    ensures plain { IsBotInRange result.now }
+    ensures in_range { IsBotInRange result.now }
 {
     let cells = found.cells();
     if place < cells.len() {
@@ -51,7 +51,7 @@ fn found_near(found: &Found, id: u16, place: usize) -> &Bot
 fn found_last(found: &Found, id: u16) -> &Bot
     requires { IsSome (bot_at (shown_alone found.now) id) }
     ensures value { bot_at (shown_alone found.now) id ≡ Some result.now }
-    ensures plain { IsBotInRange result.now }
+    ensures in_range { IsBotInRange result.now }
 {
     let cells = found.cells();
     let count = cells.len();
@@ -85,7 +85,7 @@ fn body_at<'a>(name: &CellName, cell: &'a Cell, id: u16) -> Option<&'a Bot>
 fn found_at_last(found: &Found, id: u16) -> &Bot
     requires { IsSome (bot_at (shown_alone found.now) id) }
     ensures value { bot_at (shown_alone found.now) id ≡ Some result.now }
-    ensures plain { IsBotInRange result.now }
+    ensures in_range { IsBotInRange result.now }
 {
     match found.body(id) {
         Some(bot) => bot,

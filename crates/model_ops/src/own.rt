@@ -28,10 +28,10 @@ fn stored(found: &Found, var: u8, value: i32) -> Result<u8, Failure>
 #[inline(always)]
 pub(crate) fn with_value(found: &Found, own: &Bot, var: u8, value: i32) -> Result<Bot, Failure>
     requires below { var < most_vars }
-    requires plain { IsBotInRange own.now }
+    requires in_range { IsBotInRange own.now }
     ensures value { result ≡ need (is_value found.now.maxes var value) Failure.OutOfRange
         (Ok (with_value own.now var (unsigned_abs value))) }
-    ensures plain { IfOk result (λ b. IsBotInRange b) }
+    ensures in_range { IfOk result (λ b. IsBotInRange b) }
 {
     let stored = stored(found, var, value)?;
     let mut bot = *own;

@@ -218,7 +218,7 @@ impl<'f> Site<'f> {
     /// The amoebot itself, as it is now.
     pub fn own(&self) -> &Bot
         ensures value { bot_at self.now.reached (own_id self.now) ≡ Some result.now }
-        ensures plain { IsBotInRange result.now }
+        ensures in_range { IsBotInRange result.now }
     {
         match &self.draft {
             None => &self.own,

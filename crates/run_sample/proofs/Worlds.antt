@@ -12,13 +12,13 @@ use Rattle.amoebot_state.specs.declared.refusal.WorldRefusal.TheVariants.{NoMemo
 use Rattle.amoebot_state.specs.Configs.{Config, blank, frame_of, with_these, IsValid}
 use Rattle.amoebot_state.specs.Refusals.{IsBotInRange, IsFirstFault}
 use Rattle.amoebot_state.proofs.Faults.{valid_is_faultless}
-use Rattle.amoebot_state.proofs.Occupants.{plain_bot}
+use Rattle.amoebot_state.proofs.Occupants.{bot_in_range}
 use Rattle.action_tree.specs.Trees.{Program}
 use Rattle.action_tree.specs.Shipped as sample
 use Rattle.run_sample.specs.Sample.{sample_area, sample_maxes, sample_frame}
 
-pub are_plain : (bots : List Bot) → IsValid (with_these sample_frame bots) → All IsBotInRange bots
-are_plain bots valid = All-from_get_or IsBotInRange bots blank (λ i lt. plain_bot (with_these sample_frame bots) valid i (get_or bots i blank) (get_or-map Some bots i blank None lt))
+pub are_in_range : (bots : List Bot) → IsValid (with_these sample_frame bots) → All IsBotInRange bots
+are_in_range bots valid = All-from_get_or IsBotInRange bots blank (λ i lt. bot_in_range (with_these sample_frame bots) valid i (get_or bots i blank) (get_or-map Some bots i blank None lt))
 
 not_refused : (bots : List Bot) (e : WorldRefusal) → IsValid (with_these sample_frame bots) → IsFirstFault sample_frame bots e → ⊥
 not_refused bots e valid fault =

@@ -41,7 +41,7 @@ pub fn documents_are_decided()
     ensures decided { DocumentsAreDecided }
     ensures header { HeaderIsDecided }
     ensures sections { AreSections Body body }
-    ensures plain { FormsAreStraight }
+    ensures straight { FormsAreStraight }
     ensures read { DocumentsAreRead }
 {}
 

@@ -117,8 +117,8 @@ pub same_bots : (ws : List Code) → map written_amoebot (map view.bot_view ws) 
 same_bots [] = refl
 same_bots (w ∷ ws) = ap (λ (bs : List Bot). w.bot ∷ bs) (same_bots ws)
 
-pub plain_bots : (ws : List Code) → All (λ (b : Code). IsBotInRange b.bot) ws → All IsBotInRange (map its_bot ws)
-plain_bots ws all = All-map IsBotInRange its_bot ws all
+pub bots_in_range : (ws : List Code) → All (λ (b : Code). IsBotInRange b.bot) ws → All IsBotInRange (map its_bot ws)
+bots_in_range ws all = All-map IsBotInRange its_bot ws all
 
 -- the one of which an element of the image is
 record Of {A B : Type 0} (f : A → B) (ws : List A) (n : ℕ) (b : B) : Type 0 where

@@ -153,7 +153,7 @@ fn memory(values: &[u8]) -> [u8; VALUES]
 pub fn read_bot(tokens: &mut Tokens<'_>, vars: u8) -> Reading<Bot>
     requires { vars ≤ most_vars }
     ensures reads { Gives (λ b. b) (reader.a_bot vars) tokens.old result tokens.new }
-    ensures plain { IfOk result IsBotInRange }
+    ensures in_range { IfOk result IsBotInRange }
     ensures sure { IfErr result (λ e. e ≢ NoMemory) }
 {
     let head = read_node(tokens)?;

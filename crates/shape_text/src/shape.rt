@@ -139,7 +139,7 @@ fn read_bot_line(tokens: &mut Tokens<'_>, vars: u8, before: u32) -> Reading<Writ
     requires { vars ≤ most_vars }
     ensures reads { Gives view.bot_view (reader.a_bot_line vars before) tokens.old result tokens.new }
     ensures room { IfOk result (λ _. before < most_bots) }
-    ensures plain { IfOk result (λ b. IsBotInRange b.bot) }
+    ensures in_range { IfOk result (λ b. IsBotInRange b.bot) }
 {
     let line = read_word_within(tokens, b"bot", MOST_BOTS, before)?;
     let bot = read_bot(tokens, vars)?;
@@ -153,7 +153,7 @@ fn more_bot(tokens: &mut Tokens<'_>, vars: u8, before: u32) -> Reading<Option<Wr
         (another spec.is_bot (reader.a_bot_line vars before))
         tokens.old result tokens.new }
     ensures room { IfOk result (λ o. IfSome o (λ _. before < most_bots)) }
-    ensures plain { IfOk result (λ o. IfSome o (λ b. IsBotInRange b.bot)) }
+    ensures in_range { IfOk result (λ o. IfSome o (λ b. IsBotInRange b.bot)) }
 {
     if !tokens.is_next(TokenKind::Word, b"bot") {
         return Ok(None);
@@ -166,7 +166,7 @@ fn read_bots(alloc: Global, tokens: &mut Tokens<'_>, vars: u8) -> Reading<Vec<Wr
     ensures reads { Gives (λ v. map view.bot_view v.items)
         (reader.all_bots vars) tokens.old result tokens.new }
     ensures few { IfOk result (λ v. vec_len v ≤ most_bots) }
-    ensures plain { IfOk result (λ v. All (λ b. IsBotInRange b.bot) v.items) }
+    ensures in_range { IfOk result (λ v. All (λ b. IsBotInRange b.bot) v.items) }
 {
     let mut found = Vec::new(alloc);
     let mut before = 0;
@@ -189,7 +189,7 @@ fn read_drawing(
         (reader.a_drawing (part.may_have_walls version) vars) tokens.old result tokens.new }
     ensures few_walls { IfOk result (λ s. vec_len s.walls ≤ most_walls) }
     ensures few { IfOk result (λ s. vec_len s.bots ≤ most_bots) }
-    ensures plain { IfOk result (λ s. All (λ b. IsBotInRange b.bot) s.bots.items) }
+    ensures in_range { IfOk result (λ s. All (λ b. IsBotInRange b.bot) s.bots.items) }
 {
     let area = read_area(tokens)?;
     let walls = read_walls(alloc, tokens, version)?;
@@ -211,7 +211,7 @@ fn read_written(
         (reader.a_written_shape (part.may_have_walls version) text.now vars) tokens.old result tokens.new }
     ensures few_walls { IfOk result (λ s. vec_len s.walls ≤ most_walls) }
     ensures few { IfOk result (λ s. vec_len s.bots ≤ most_bots) }
-    ensures plain { IfOk result (λ s. All (λ b. IsBotInRange b.bot) s.bots.items) }
+    ensures in_range { IfOk result (λ s. All (λ b. IsBotInRange b.bot) s.bots.items) }
 {
     read_word(tokens, text)?;
     let shape = read_drawing(alloc, tokens, version, vars)?;
@@ -280,7 +280,7 @@ fn refusal_of(refusal: WorldRefusal, walls: &[WrittenWall], bots: &[WrittenBot])
 fn world_of(alloc: Global, written: &WrittenShape, maxes: [u8; 8]) -> Reading<World>
     requires few_walls { vec_len written.now.walls ≤ most_walls }
     requires few { vec_len written.now.bots ≤ most_bots }
-    requires plain { All (λ b. IsBotInRange b.bot) written.now.bots.items }
+    requires in_range { All (λ b. IsBotInRange b.bot) written.now.bots.items }
     ensures judged { view.IsJudged maxes (view.shape written.now) result }
     ensures few { IfOk result (λ w. length w.bots ≤ most_bots) }
 {

@@ -8,7 +8,7 @@ use Rattle.tri_lattice.specs.Extent.{IsArea}
 use Rattle.amoebot_state.specs.declared.cell.CellName.TheVariants as name
 use Rattle.amoebot_state.specs.Configs.{Config, IsValid, bot_at}
 use Rattle.amoebot_state.proofs.Faults.{frame_valid, valid_two}
-use Rattle.amoebot_state.proofs.Occupants.{plain_in}
+use Rattle.amoebot_state.proofs.Occupants.{in_range_of}
 use Rattle.model_ops.proofs.ExpansionLaws.{expansion_is_lawful}
 use Rattle.claim_core.specs.declared.marks.Mark.TheVariants as mark
 use Rattle.claim_core.specs.Turns.{IsList}
@@ -34,7 +34,7 @@ is_area = record {
 }
 
 pub valid : IsValid two_beside.world
-valid = valid_two row_frame (frame_valid row_frame is_area refl) (bot_in_row 0 0) (bot_in_row 1 1) (plain_in row_area is_area (bot_in_row 0 0) refl refl (omega arith) refl) (plain_in row_area is_area (bot_in_row 1 1) refl refl (omega arith) refl) refl refl
+valid = valid_two row_frame (frame_valid row_frame is_area refl) (bot_in_row 0 0) (bot_in_row 1 1) (in_range_of row_area is_area (bot_in_row 0 0) refl refl (omega arith) refl) (in_range_of row_area is_area (bot_in_row 1 1) refl refl (omega arith) refl) refl refl
 
 pub one_id : (i : ℕ) → IsList (i ∷ [])
 one_id i = record { some = omega arith; few = omega arith }

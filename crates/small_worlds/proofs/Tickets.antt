@@ -8,7 +8,7 @@ use Rattle.tri_lattice.specs.Extent.{IsArea}
 use Rattle.amoebot_state.specs.declared.verdict.Entry.{Entry}
 use Rattle.amoebot_state.specs.Configs.{IsValid, bot_at}
 use Rattle.amoebot_state.proofs.Faults.{frame_valid, valid_two}
-use Rattle.amoebot_state.proofs.Occupants.{plain_in}
+use Rattle.amoebot_state.proofs.Occupants.{in_range_of}
 use Rattle.model_ops.proofs.ExpansionLaws.{expansion_is_lawful}
 use Rattle.claim_core.specs.declared.marks.Mark.TheVariants as mark
 use Rattle.claim_core.specs.declared.state.Phase.TheVariants.{Ended}
@@ -37,7 +37,7 @@ is_long_area = record {
 }
 
 long_valid : IsValid far_apart.world
-long_valid = valid_two long_frame (frame_valid long_frame is_long_area refl) (bot_in_row 0 0) (bot_in_row 3 3) (plain_in long_area is_long_area (bot_in_row 0 0) refl refl (omega arith) refl) (plain_in long_area is_long_area (bot_in_row 3 3) refl refl (omega arith) refl) refl refl
+long_valid = valid_two long_frame (frame_valid long_frame is_long_area refl) (bot_in_row 0 0) (bot_in_row 3 3) (in_range_of long_area is_long_area (bot_in_row 0 0) refl refl (omega arith) refl) (in_range_of long_area is_long_area (bot_in_row 3 3) refl refl (omega arith) refl) refl refl
 
 abbrev IsFar : ℕ → Type 0
 IsFar = IsThereIn far_apart.world

@@ -55,7 +55,7 @@ pub fn turned(x: u8, y: u8) -> Bot
 /// The world of these amoebots in the area 0 0 8 8, whose variable 0 is 0 or 1.
 pub fn world_of(alloc: Global, bots: &[Bot]) -> Result<World, Fail>
     requires few { length bots.now ≤ most_bots }
-    requires plain { All IsBotInRange bots.now }
+    requires in_range { All IsBotInRange bots.now }
     ensures { IfOk result (λ world. world.bots ≡ map Some bots.now) }
 {
     world_in(alloc, 8, 8, bots)
@@ -64,7 +64,7 @@ pub fn world_of(alloc: Global, bots: &[Bot]) -> Result<World, Fail>
 /// That world in the area of this width and height at 0 0.
 pub fn world_in(alloc: Global, w: u16, h: u16, bots: &[Bot]) -> Result<World, Fail>
     requires few { length bots.now ≤ most_bots }
-    requires plain { All IsBotInRange bots.now }
+    requires in_range { All IsBotInRange bots.now }
     ensures { IfOk result (λ world. world.bots ≡ map Some bots.now) }
 {
     let area = Area::new(0, 0, w, h).ok_or("an area")?;

@@ -1,5 +1,5 @@
 //! Tests of claims: the protocol as a machine, and claims of whole zones on fields, on one thread.
-//! Other crates of tests have from here the plain checker of reports, fields, and gates.
+//! Other crates of tests have from here the simple checker of reports, fields, and gates.
 #![tactic(auto)]
 
 mod checker;

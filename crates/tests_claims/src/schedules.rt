@@ -90,7 +90,7 @@ fn left_by<D: Decider>(
     seed: u64,
 ) -> Result<Report, Fail>
     requires few { length bots.now ≤ most_bots }
-    requires plain { All IsBotInRange bots.now }
+    requires in_range { All IsBotInRange bots.now }
 {
     let (turns, ids) = lists;
     let world = world_of(alloc, bots)?;
@@ -113,7 +113,7 @@ fn check_schedules<D: Decider>(
     lists: (u32, &[&[u16]]),
 ) -> Result<Tally, Fail>
     requires few { length bots.now ≤ most_bots }
-    requires plain { All IsBotInRange bots.now }
+    requires in_range { All IsBotInRange bots.now }
 {
     let (turns, ids) = lists;
     let first = world_of(alloc, bots)?;

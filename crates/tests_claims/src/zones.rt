@@ -69,7 +69,7 @@ fn is_zone(
 /// The zone of amoebot 0 of a world of these is this one.
 fn has_zone(rt: &impl Abort, alloc: Global, bots: &[Bot], zone: &[CellName]) -> Result<(), Fail>
     requires few { length bots.now ≤ most_bots }
-    requires plain { All IsBotInRange bots.now }
+    requires in_range { All IsBotInRange bots.now }
 {
     let world = world_in(alloc, 8, 8, bots)?;
     let lists = lists_of(alloc, 1, &world, &[&[0]])?;

@@ -7,8 +7,6 @@ mod elections;
 #[cfg(test)]
 mod old_values;
 #[cfg(test)]
-mod plain_rounds;
-#[cfg(test)]
 mod renewals;
 #[cfg(test)]
 mod rewind_faults;
@@ -18,6 +16,8 @@ mod rewinds;
 mod rounds;
 #[cfg(test)]
 mod samples;
+#[cfg(test)]
+mod slow_rounds;
 #[cfg(test)]
 mod small_runs;
 #[cfg(test)]

@@ -1,8 +1,8 @@
 //! Rounds of runs: documents with what `rounds` writes of them, in each version;
 //! and journals of runs on threads.
 
-use crate::plain_rounds::Table;
 use crate::renewals::{check_all_different, check_all_refused};
+use crate::slow_rounds::Table;
 use action_eval::Runner;
 use activation::NoGate;
 use amoebot_run::Status::Done;

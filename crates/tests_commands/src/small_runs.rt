@@ -45,7 +45,7 @@ fn interleaved<D: Decider>(
     schedule: &str,
 ) -> Result<Report, Fail>
     requires few { length bots.now ≤ most_bots }
-    requires plain { All IsBotInRange bots.now }
+    requires in_range { All IsBotInRange bots.now }
     requires text { length schedule.now < 1000 }
 {
     let (turns, ids) = lists;
@@ -64,7 +64,7 @@ fn text_of<D: Decider>(
     schedule: &str,
 ) -> Result<Text, Fail>
     requires few { length bots.now ≤ most_bots }
-    requires plain { All IsBotInRange bots.now }
+    requires in_range { All IsBotInRange bots.now }
     requires text { length schedule.now < 1000 }
 {
     let report = interleaved(alloc, decider, bots, lists, schedule)?;

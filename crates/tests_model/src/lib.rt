@@ -27,10 +27,6 @@ mod measures;
 #[cfg(test)]
 mod operations;
 #[cfg(test)]
-mod plain_rounds;
-#[cfg(test)]
-mod plain_shapes;
-#[cfg(test)]
 mod round_programs;
 #[cfg(test)]
 mod round_runs;
@@ -38,6 +34,10 @@ mod round_runs;
 mod rounds;
 #[cfg(test)]
 mod serial;
+#[cfg(test)]
+mod slow_rounds;
+#[cfg(test)]
+mod slow_shapes;
 #[cfg(test)]
 mod tampered_values;
 #[cfg(test)]

@@ -6,7 +6,7 @@ ghost use Rattle.tri_lattice.specs.Lattice.{IsNear};
 ghost use Rattle.amoebot_state.specs.Refusals.{IsBotInRange};
 
 use crate::drawings::{LARGE, SMALL, Shape};
-use crate::plain_shapes;
+use crate::slow_shapes;
 use amoebot_state::{Bot, World};
 use shape_checks::{count_value, is_connected, is_hexagon};
 use std::alloc::Global;
@@ -22,18 +22,18 @@ pub(crate) fn is_near(node: Node) -> bool
 }
 
 /// Whether an amoebot may stand in some world.
-fn is_plain(bot: Bot) -> bool
+fn is_in_range(bot: Bot) -> bool
     ensures { result ≡ true → IsBotInRange bot }
 {
     is_near(bot.head) && is_near(bot.tail) && bot.rot < 6
 }
 
 /// Whether each amoebot may.
-fn are_plain(bots: &[Bot]) -> bool
+fn are_in_range(bots: &[Bot]) -> bool
     ensures { result ≡ true → All IsBotInRange bots.now }
 {
     for bot in bots {
-        if !is_plain(*bot) {
+        if !is_in_range(*bot) {
             return false;
         }
     }
@@ -52,7 +52,7 @@ fn bot(head: Node, tail: Node, value: u8) -> Bot {
 
 /// The world of these amoebots.
 fn world_of(alloc: Global, area: Area, bots: &[Bot]) -> Result<World, Fail> {
-    if bots.len() > 4096 || !are_plain(bots) {
+    if bots.len() > 4096 || !are_in_range(bots) {
         return Err(Fail::from("amoebots of a world"));
     }
     Ok(World::new(alloc, area, [0, 0, 0, 0, 0, 0, 0, 9], bots)?)
@@ -96,7 +96,7 @@ fn search(
     Ok(())
 }
 
-/// The plain functions find the same.
+/// The slow functions find the same.
 fn try_all(
     rt: &impl Abort,
     alloc: Global,
@@ -106,13 +106,10 @@ fn try_all(
     name: &str,
 ) -> Result<(), Fail> {
     assert!(rt;
-        plain_shapes::is_connected(alloc, world)? == connected,
+        slow_shapes::is_connected(alloc, world)? == connected,
         "{name}"
     );
-    assert!(rt;
-        plain_shapes::is_hexagon(alloc, world)? == hexagon,
-        "{name}"
-    );
+    assert!(rt; slow_shapes::is_hexagon(alloc, world)? == hexagon, "{name}");
     Ok(())
 }
 

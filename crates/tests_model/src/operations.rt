@@ -63,7 +63,7 @@ const fn tail(dir: u8) -> Port {
 fn found(alloc: Global, bots: &[Bot]) -> Result<Found, Fail>
     requires some { 0 < length bots.now }
     requires few { length bots.now ≤ most_bots }
-    requires plain { All IsBotInRange bots.now }
+    requires in_range { All IsBotInRange bots.now }
 {
     let area = Area::new(0, 0, 8, 8).ok_or("an area")?;
     let world = World::new(alloc, area, MAXES, bots)?;

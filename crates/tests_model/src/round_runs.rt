@@ -1,5 +1,5 @@
 //! Runs of small worlds that are made from numbers: after each entry the meter has
-//! the numbers of the plain count.
+//! the numbers of the slow count.
 ghost use Rattle.std.specs.Prelude.{◌≡◌, ◌≤◌, ◌<◌, IfOk};
 ghost use Rattle.std.specs.List.{All};
 ghost use Rattle.tri_lattice.specs.Lattice.{IsNear};

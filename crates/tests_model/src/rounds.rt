@@ -1,12 +1,12 @@
 //! Rounds of small runs: the numbers after each entry from a table that was written
-//! by the definition, and those of the plain count.
+//! by the definition, and those of the slow count.
 ghost use Rattle.std.specs.Prelude.{◌≡◌, ◌≤◌, ◌<◌, ◌+◌, ◌^◌, IfOk, OnOk};
 ghost use Rattle.std.specs.List.{All};
 ghost use Rattle.amoebot_state.specs.Refusals.{IsBotInRange};
 
 use crate::choices::{ERODING, PASSING};
 use crate::decision_counts::Counting;
-use crate::plain_rounds::{History, entry_of};
+use crate::slow_rounds::{History, entry_of};
 use amoebot_state::{Bot, Decider, End, Entry, Port, World};
 use round_meter::Meter;
 use serial_model::{Serial, Turned};
@@ -104,7 +104,7 @@ fn bots_at(alloc: Global, places: &[Place]) -> Result<Vec<Bot>, Fail>
     Ok(bots)
 }
 
-/// What a meter is compared with: the run of `Serial`, and the plain count.
+/// What a meter is compared with: the run of `Serial`, and the slow count.
 #[derive(Drop)]
 pub struct Reference {
     serial: Serial,
@@ -145,7 +145,7 @@ impl Reference {
         }
     }
 
-    /// The meter's numbers are those of the plain count, and its world is that of `Serial`.
+    /// The meter's numbers are those of the slow count, and its world is that of `Serial`.
     pub fn check<R: Abort, D: Decider>(&self, rt: &R, meter: &Meter<'_, D>) {
         assert!(rt; meter.world().same(self.serial.world()));
         assert!(rt; numbers(meter) == self.history.rounds());

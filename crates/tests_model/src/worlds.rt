@@ -61,7 +61,7 @@ const AT_EDGE: Bot = Bot {
 /// A world of these amoebots in the area 0 0 8 8.
 fn world_of(alloc: Global, bots: &[Bot]) -> Result<World, Fail>
     requires few { length bots.now ≤ most_bots }
-    requires plain { All IsBotInRange bots.now }
+    requires in_range { All IsBotInRange bots.now }
     ensures { IfOk result (λ w. w
         ≡ with_these (frame_of (record { x0 = pos 0; y0 = pos 0; w = 8; h = 8 })
         (1 ∷ 0 ∷ 0 ∷ 0 ∷ 0 ∷ 0 ∷ 0 ∷ 0 ∷ [])) bots.now) }
@@ -74,7 +74,7 @@ fn world_of(alloc: Global, bots: &[Bot]) -> Result<World, Fail>
 fn walled_of(alloc: Global, walls: &[Node], bots: &[Bot]) -> Result<World, Fail>
     requires few_walls { length walls.now ≤ most_walls }
     requires few { length bots.now ≤ most_bots }
-    requires plain { All IsBotInRange bots.now }
+    requires in_range { All IsBotInRange bots.now }
     ensures { IfOk result (λ w. w
         ≡ with_these (walled_frame (record { x0 = pos 0; y0 = pos 0; w = 8; h = 8 }) walls.now
         (1 ∷ 0 ∷ 0 ∷ 0 ∷ 0 ∷ 0 ∷ 0 ∷ 0 ∷ [])) bots.now) }
@@ -87,7 +87,7 @@ fn walled_of(alloc: Global, walls: &[Node], bots: &[Bot]) -> Result<World, Fail>
 fn walled_refusal(alloc: Global, walls: &[Node], bots: &[Bot]) -> Option<WorldRefusal>
     requires few_walls { length walls.now ≤ most_walls }
     requires few { length bots.now ≤ most_bots }
-    requires plain { All IsBotInRange bots.now }
+    requires in_range { All IsBotInRange bots.now }
 {
     let area = Area::new(0, 0, 8, 8)?;
     World::walled(alloc, area, walls, MAXES, bots).err()
@@ -199,7 +199,7 @@ fn walls_stay(rt: HostRuntime) -> Result<(), Fail> {
 /// A copy of the world of these amoebots.
 fn copy_of(alloc: Global, bots: &[Bot]) -> Result<World, Fail>
     requires few { length bots.now ≤ most_bots }
-    requires plain { All IsBotInRange bots.now }
+    requires in_range { All IsBotInRange bots.now }
     ensures { IfOk result (λ w. w
         ≡ with_these (frame_of (record { x0 = pos 0; y0 = pos 0; w = 8; h = 8 })
         (1 ∷ 0 ∷ 0 ∷ 0 ∷ 0 ∷ 0 ∷ 0 ∷ 0 ∷ [])) bots.now) }

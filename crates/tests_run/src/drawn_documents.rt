@@ -1,7 +1,7 @@
 //! Documents that are drawn from a seed: small shapes, of which many have walls,
 //! with programs that move, write and fail.
 //! The text of one list is the same by each word that makes its turns.
-//! Of several lists each report passes the plain checker, and its text agrees under `replay`.
+//! Of several lists each report passes the simple checker, and its text agrees under `replay`.
 ghost use Rattle.std.specs.Prelude.{◌≡◌, ◌≤◌, ◌<◌, IfOk};
 
 use crate::meetings::ON_THREADS;

@@ -1,5 +1,5 @@
 //! Reports of `run` and of `tickets` on threads, by programs from their texts.
-//! Each is judged by a plain checker that knows the model and nothing of claims.
+//! Each is judged by a simple checker that knows the model and nothing of claims.
 //! Its text, behind the document, agrees under `replay`.
 
 use crate::meetings::{MEETINGS, ON_THREADS, ONE_FOR_SIXTEEN, SIXTEEN_APART, SIXTEEN_FOR_SIXTEEN};

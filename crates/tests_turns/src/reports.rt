@@ -1,5 +1,5 @@
 //! Reports of real threads over small worlds where zones meet,
-//! judged by a plain checker that knows the model and nothing of claims.
+//! judged by a simple checker that knows the model and nothing of claims.
 ghost use Rattle.std.specs.Prelude.{◌≤◌, length};
 ghost use Rattle.std.specs.List.{All};
 ghost use Rattle.amoebot_state.specs.Limits.{most_bots};
@@ -35,7 +35,7 @@ fn check_runs<R: Threads + Wait + Sync + Abort, D: Decider>(
     runs: u32,
 ) -> Result<(), Fail>
     requires few { length bots.now ≤ most_bots }
-    requires plain { All IsBotInRange bots.now }
+    requires in_range { All IsBotInRange bots.now }
 {
     let (turns, ids) = lists;
     let first = world_of(alloc, bots)?;

@@ -40,7 +40,7 @@ pub fn report_of<R: Abort + Threads + Wait + Sync, D: Decider, G: Gate>(
     gate: &G,
 ) -> Result<Report, Fail>
     requires few { length bots.now ≤ most_bots }
-    requires plain { All IsBotInRange bots.now }
+    requires in_range { All IsBotInRange bots.now }
 {
     let world = world_of(alloc, bots)?;
     let lists = lists_of(alloc, turns, &world, ids)?;

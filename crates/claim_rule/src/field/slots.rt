@@ -15,7 +15,7 @@ use amoebot_state::{Cell, Decider, Entry};
 use atomic_table::Seat;
 
 impl<'d, D: Decider, W: Manner> Field<'d, D, W> {
-    /// Reads the value in the slot of the plain cell that was won last.
+    /// Reads the value in the slot of the slotted cell that was won last.
     pub(crate) fn cell_there(&self, seat: &mut Seat<Slot, View<D>>, slot: usize) -> Cell
         requires table { seat.old.table_id ≡ self.now.table }
         requires won { (x : Cell) × (seat.old.me.1 ≡ (slot, filling.Cell x) ∷ rest seat.old.me.1) }
@@ -29,7 +29,7 @@ impl<'d, D: Decider, W: Manner> Field<'d, D, W> {
         }
     }
 
-    /// Puts a value into the slot of the plain cell that was won last.
+    /// Puts a value into the slot of the slotted cell that was won last.
     /// It is written only where the slot is stale: else it is there.
     pub(crate) fn put_there(
         &self,

@@ -18,7 +18,7 @@ use atomic_table::Seat;
 use claim_core::cells_of;
 
 impl<'d, D: Decider, W: Manner> Field<'d, D, W> {
-    /// One try to claim the plain cell with this number.
+    /// One try to claim the slotted cell with this number.
     /// It returns the tag that was found, 0 where the cell is won.
     pub(crate) fn claim(&self, seat: &mut Seat<Slot, View<D>>, cell: usize, tag: u64) -> u64
         requires may { MayStep self.now seat.old }
@@ -32,7 +32,7 @@ impl<'d, D: Decider, W: Manner> Field<'d, D, W> {
             .compare_exchange::<Claim<W>>(seat, cell, 0, tag)
     }
 
-    /// One release, of the plain cell with this number, which was won last.
+    /// One release, of the slotted cell with this number, which was won last.
     pub(crate) fn free(&self, seat: &mut Seat<Slot, View<D>>, cell: usize)
         requires may { MayStep self.now seat.old }
         requires last { IsToFree D.verdict W.way cell seat.old.me }

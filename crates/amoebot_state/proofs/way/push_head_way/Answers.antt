@@ -51,7 +51,7 @@ push-requires c =
       | else-not-inner-via-then-not-inner+else-is_none w ↦ ap (is_in c.args.area.now) (sym to) ∙ ap is_some (sym w.index.ensures.value) ∙ w.is_none.ensures ∙ ap not w.if-is_none.false
       | else-not-inner-via-else-not-inner w ↦ c.requires.inner w.if-not-inner.false
     ] in
-    let adds = head_adds c.args.area.now b vs c.args.dir c.requires.plain.rot c.requires.below c.requires.before tail inside in
+    let adds = head_adds c.args.area.now b vs c.args.dir c.requires.in_range.rot c.requires.below c.requires.before tail inside in
     (omega arith, omega (arith, c.requires.room, ap (λ (us : List Node). length us) adds.0, length-append vs (behind b (port Head c.args.dir) ∷ [])))
 
 pub returns-clause-nodes : goal.returns-clause-nodes
@@ -64,7 +64,7 @@ returns-clause-nodes c =
       | else-not-inner-via-then-not-inner+else-is_none w ↦ ap (is_in c.args.area.now) (sym to) ∙ ap is_some (sym w.index.ensures.value) ∙ w.is_none.ensures ∙ ap not w.if-is_none.false
       | else-not-inner-via-else-not-inner w ↦ c.requires.inner w.if-not-inner.false
     ] in
-    let adds = head_adds c.args.area.now b vs c.args.dir c.requires.plain.rot c.requires.below c.requires.before tail inside in
+    let adds = head_adds c.args.area.now b vs c.args.dir c.requires.in_range.rot c.requires.below c.requires.before tail inside in
     c.push.ensures.items ∙ ap (λ v. vs ++ v ∷ []) to ∙ sym adds.0
 
 pub returns-clause-way : goal.returns-clause-way
@@ -77,7 +77,7 @@ returns-clause-way c =
       | else-not-inner-via-then-not-inner+else-is_none w ↦ ap (is_in c.args.area.now) (sym to) ∙ ap is_some (sym w.index.ensures.value) ∙ w.is_none.ensures ∙ ap not w.if-is_none.false
       | else-not-inner-via-else-not-inner w ↦ c.requires.inner w.if-not-inner.false
     ] in
-    let adds = head_adds c.args.area.now b vs c.args.dir c.requires.plain.rot c.requires.below c.requires.before tail inside in
+    let adds = head_adds c.args.area.now b vs c.args.dir c.requires.in_range.rot c.requires.below c.requires.before tail inside in
     let place : c.len.result - 1 ≡ length vs = omega (arith, c.len.ensures.value, c.push.ensures.len) in
     ap way.To place
     ∙ sym adds.1

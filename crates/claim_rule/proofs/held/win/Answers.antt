@@ -10,7 +10,7 @@ use Rattle.claim_rule.specs.declared.views.View.{View}
 use Rattle.claim_rule.specs.Plays.{about}
 use Rattle.claim_rule.specs.Views.{Seated, setup_at}
 use Rattle.claim_rule.specs.Tokens.{Token, IsActivation, IsClaiming, KeepsRoom, KnowsTurn, KnowsWalls, frame_of, next_in}
-use Rattle.claim_rule.proofs.ActivationLemmas.{to_try_plain, wins_plain, its_value, stops_plain, last_first}
+use Rattle.claim_rule.proofs.ActivationLemmas.{to_try_slotted, wins_slotted, its_value, stops_slotted, last_first}
 use Rattle.claim_rule.proofs.KnownTurns.{in_order, has_room}
 use Rattle.claim_rule.proofs.KnownWalls.{still_known, wall_fits}
 use Rattle.claim_rule.proofs.WayLemmas.{words_of_nodes}
@@ -19,14 +19,14 @@ use Rattle.claim_rule.proofs.held.win.Goals as goal
 pub claim-found-requires-clause-next : goal.claim-found-requires-clause-next
 claim-found-requires-clause-next g c κs within =
     let room = c.held.inside.activation.room.value in
-    to_try_plain g.D.Decider.verdict g.W.Manner.way c.held.inside.activation.seat.me _ _ _ _ _ _ _ c.held.invariant.0 c.args.cell (sym c.has_slot.ensures ∙ c.if-not-has_slot.false) c.held.invariant.1
+    to_try_slotted g.D.Decider.verdict g.W.Manner.way c.held.inside.activation.seat.me _ _ _ _ _ _ _ c.held.invariant.0 c.args.cell (sym c.has_slot.ensures ∙ c.if-not-has_slot.false) c.held.invariant.1
     (ap (next_in g.D.Decider.verdict) c.held.view_is ∙ c.requires.next) c.in-Some.number c.deref-room.result.now.tag
     (ap (λ (q : Room). number q.area c.args.cell) (sym c.deref-room.ensures) ∙ sym c.cell_number.ensures ∙ c.in-Some.is)
     (ap (λ (q : Room). q.tag) c.deref-room.ensures ∙ c.held.invariant.2.tag ∙ ap (tag room.caller room.turn) c.held.invariant.0.bot)
 
 pub invariant_of-result : goal.invariant_of-result
 invariant_of-result g c =
-    stops_plain g.D.Decider.verdict g.W.Manner.way c.held.inside.activation.seat.me _ _ _ _ _ _ _ c.held.invariant.0 c.claim-found.new.seat.me c.args.cell c.claim-found.result c.held.invariant.1
+    stops_slotted g.D.Decider.verdict g.W.Manner.way c.held.inside.activation.seat.me _ _ _ _ _ _ _ c.held.invariant.0 c.claim-found.new.seat.me c.args.cell c.claim-found.result c.held.invariant.1
     (ap (next_in g.D.Decider.verdict) c.held.view_is ∙ c.requires.next) (c.claim-found.ensures.told.1 c.if-found-ne0.true)
 
 pub cell_there-value-requires-clause-won : goal.cell_there-value-requires-clause-won
@@ -49,7 +49,7 @@ hold-requires-clause-few g c =
     let a = c.held.inside.activation in
     let m = c.cell_there-value.new.seat.me in
     let at_n = ap (λ (q : Room). number q.area c.args.cell) (sym c.deref-room.ensures) ∙ sym c.cell_number.ensures ∙ c.in-Some.is in
-    let won = wins_plain g.D.Decider.verdict g.W.Manner.way a.seat.me _ _ _ _ _ _ _ c.held.invariant.0 c.args.cell (sym c.has_slot.ensures ∙ c.if-not-has_slot.false) c.held.invariant.1
+    let won = wins_slotted g.D.Decider.verdict g.W.Manner.way a.seat.me _ _ _ _ _ _ _ c.held.invariant.0 c.args.cell (sym c.has_slot.ensures ∙ c.if-not-has_slot.false) c.held.invariant.1
     (ap (next_in g.D.Decider.verdict) c.held.view_is ∙ c.requires.next) c.claim-found.new.seat.me m v c.slot.result (c.claim-found.ensures.told.0 c.if-found-ne0.false)
     (c.slot.ensures a.room.value.area at_n (sym c.has_slot.ensures ∙ c.if-not-has_slot.false)) c.cell_there-value.ensures.value c.cell_there-value.ensures.stays in
     subst (λ (q : Room). length q.cells < most_cells) (sym c.deref_mut.ensures.value) (has_room g.D.Decider.verdict m _ _ _ _ _ _ a.room.value.cells _ _ _ won.0 won.1)
@@ -63,7 +63,7 @@ hold-requires-clause-order g c =
     let a = c.held.inside.activation in
     let m = c.cell_there-value.new.seat.me in
     let at_n = ap (λ (q : Room). number q.area c.args.cell) (sym c.deref-room.ensures) ∙ sym c.cell_number.ensures ∙ c.in-Some.is in
-    let won = wins_plain g.D.Decider.verdict g.W.Manner.way a.seat.me _ _ _ _ _ _ _ c.held.invariant.0 c.args.cell (sym c.has_slot.ensures ∙ c.if-not-has_slot.false) c.held.invariant.1
+    let won = wins_slotted g.D.Decider.verdict g.W.Manner.way a.seat.me _ _ _ _ _ _ _ c.held.invariant.0 c.args.cell (sym c.has_slot.ensures ∙ c.if-not-has_slot.false) c.held.invariant.1
     (ap (next_in g.D.Decider.verdict) c.held.view_is ∙ c.requires.next) c.claim-found.new.seat.me m v c.slot.result (c.claim-found.ensures.told.0 c.if-found-ne0.false)
     (c.slot.ensures a.room.value.area at_n (sym c.has_slot.ensures ∙ c.if-not-has_slot.false)) c.cell_there-value.ensures.value c.cell_there-value.ensures.stays in
     subst (λ (q : Room). AreReadInOrder q.area q.bot (q.cells ++ (c.args.cell, v) ∷ [])) (sym c.deref_mut.ensures.value) (in_order g.D.Decider.verdict m _ _ _ _ _ _ a.room.value.cells _ _ _ won.0 won.1)
@@ -75,7 +75,7 @@ hold-requires-clause-few_walls g c = λ is.
     let r = a.room.value in
     let m = c.cell_there-value.new.seat.me in
     let at_n = ap (λ (q : Room). number q.area c.args.cell) (sym c.deref-room.ensures) ∙ sym c.cell_number.ensures ∙ c.in-Some.is in
-    let won = wins_plain g.D.Decider.verdict g.W.Manner.way a.seat.me _ _ _ _ _ _ _ c.held.invariant.0 c.args.cell (sym c.has_slot.ensures ∙ c.if-not-has_slot.false) c.held.invariant.1
+    let won = wins_slotted g.D.Decider.verdict g.W.Manner.way a.seat.me _ _ _ _ _ _ _ c.held.invariant.0 c.args.cell (sym c.has_slot.ensures ∙ c.if-not-has_slot.false) c.held.invariant.1
     (ap (next_in g.D.Decider.verdict) c.held.view_is ∙ c.requires.next) c.claim-found.new.seat.me m v c.slot.result (c.claim-found.ensures.told.0 c.if-found-ne0.false)
     (c.slot.ensures r.area at_n (sym c.has_slot.ensures ∙ c.if-not-has_slot.false)) c.cell_there-value.ensures.value c.cell_there-value.ensures.stays in
     let order = in_order g.D.Decider.verdict m _ _ _ _ _ _ r.cells _ _ _ won.0 won.1 in
@@ -90,7 +90,7 @@ invariant_of-result-2 g c =
     let a = c.held.inside.activation in
     let m = c.cell_there-value.new.seat.me in
     let at_n = ap (λ (q : Room). number q.area c.args.cell) (sym c.deref-room.ensures) ∙ sym c.cell_number.ensures ∙ c.in-Some.is in
-    let won = wins_plain g.D.Decider.verdict g.W.Manner.way a.seat.me _ _ _ _ _ _ _ c.held.invariant.0 c.args.cell (sym c.has_slot.ensures ∙ c.if-not-has_slot.false) c.held.invariant.1
+    let won = wins_slotted g.D.Decider.verdict g.W.Manner.way a.seat.me _ _ _ _ _ _ _ c.held.invariant.0 c.args.cell (sym c.has_slot.ensures ∙ c.if-not-has_slot.false) c.held.invariant.1
     (ap (next_in g.D.Decider.verdict) c.held.view_is ∙ c.requires.next) c.claim-found.new.seat.me m v c.slot.result (c.claim-found.ensures.told.0 c.if-found-ne0.false)
     (c.slot.ensures a.room.value.area at_n (sym c.has_slot.ensures ∙ c.if-not-has_slot.false)) c.cell_there-value.ensures.value c.cell_there-value.ensures.stays in
     let r = a.room.value in

@@ -10,7 +10,7 @@ use Rattle.claim_rule.specs.declared.views.Slot.TheVariants as slot
 use Rattle.claim_rule.specs.Plays.{IsToFreeNode, note_of}
 use Rattle.claim_rule.specs.Words.{node_word}
 use Rattle.claim_rule.specs.Tokens.{IsActivation, IsFreeing, KeepsRoom, frame_of}
-use Rattle.claim_rule.proofs.ActivationLemmas.{last_first, last_placed, its_slot, to_free, frees_plain, to_free_node, frees_node}
+use Rattle.claim_rule.proofs.ActivationLemmas.{last_first, last_placed, its_slot, to_free, frees_slotted, to_free_node, frees_node}
 use Rattle.claim_rule.proofs.WayLemmas.{words_of_nodes, node_of}
 use Rattle.claim_rule.proofs.release.free_last.Goals as goal
 
@@ -78,7 +78,7 @@ invariant_of-t-20 g c =
     let m = c.free.new.seat.me in
     let gone = ap reverse (c.drop_last.ensures c.last.ensures.0 c.last.result.now c.last.ensures.1) in
     subst (λ (q : Room × Pairs). IsActivation g.D.Decider.verdict g.W.Manner.way m q.0.caller q.0.turn q.0.bot q.0.stale (frame_of q.0.area q.0.maxes) q.1 (reverse q.0.notes) × IsFreeing g.D.Decider.verdict m q.0.turn q.1 q.0.after) (λ j. (sym c.deref_mut-room.ensures.value j, sym gone j))
-    (frees_plain g.D.Decider.verdict g.W.Manner.way was _ _ _ _ _ _ _ c.freeing.invariant.0 n value _ are has r.after c.freeing.invariant.1 c.put_there.new.seat.me m
+    (frees_slotted g.D.Decider.verdict g.W.Manner.way was _ _ _ _ _ _ _ c.freeing.invariant.0 n value _ are has r.after c.freeing.invariant.1 c.put_there.new.seat.me m
     (c.put_there.ensures.there ∙ ap (λ i. (was.0, (i, slot.Cell value) ∷ rest was.1)) (c.slot-slot.ensures r.area at_n has))
     c.free.ensures.told.0 c.free.ensures.told.1)
 

@@ -16,8 +16,8 @@ returns-clause-header c = header_is_decided
 pub returns-clause-sections : goal.returns-clause-sections
 returns-clause-sections c = are_sections
 
-pub returns-clause-plain : goal.returns-clause-plain
-returns-clause-plain c = λ form version. plain Body are_sections.start (course_of form) (forms_are_distinct form) (nothing_yet version)
+pub returns-clause-straight : goal.returns-clause-straight
+returns-clause-straight c = λ form version. plain Body are_sections.start (course_of form) (forms_are_distinct form) (nothing_yet version)
 
 pub returns-clause-read : goal.returns-clause-read
 returns-clause-read c = documents_are_read

@@ -16,8 +16,8 @@ use Rattle.shape_text.specs.Views as view
 use Rattle.shape_text.proofs.ShapeLaws.{bot_elements}
 use Rattle.shape_text.proofs.shape.read_bots.Goals as goal
 
-abbrev Plain : WrittenBot → Type 0
-Plain b = IsBotInRange b.bot
+abbrev InRange : WrittenBot → Type 0
+InRange b = IsBotInRange b.bot
 
 pub loop-found-init : goal.loop-found-init
 unfolding bots_from
@@ -28,7 +28,7 @@ loop-found-init c =
       reads = loop_begins (all_bots c.args.vars) c.args.tokens.now (map view.bot_view c.new-found.result.items) (ap (map view.bot_view) none);
       few = omega arith;
       same = omega (arith, c.new-found.ensures.len);
-      plain = λ k d lt. absurd (omega (arith, size));
+      in_range = λ k d lt. absurd (omega (arith, size));
     }
 
 pub returns-in_err-bot-clause-reads : goal.returns-in_err-bot-clause-reads
@@ -42,7 +42,7 @@ loop-found-preserved c =
     let vars = c.args.vars in
     let next = rw c.in-Some.is at c.in_ok-bot.ensures.reads in
     let few : c.loop-found.before < most_bots = rw c.in-Some.is at c.in_ok-bot.ensures.room in
-    let plain : Plain c.in-Some.bot = rw c.in-Some.is at c.in_ok-bot.ensures.plain in
+    let in_range : InRange c.in-Some.bot = rw c.in-Some.is at c.in_ok-bot.ensures.in_range in
     let pushed = c.in_ok-push.ensures.items in
     let more : map view.bot_view c.push.new.self.items ≡ map view.bot_view c.loop-found.found.items ++ view.bot_view c.in-Some.bot ∷ [] = ap (map view.bot_view) pushed ∙ map-append view.bot_view c.loop-found.found.items (c.in-Some.bot ∷ []) in
     let reads = loop_goes_on (IsBotLine vars) (a_bot_line vars) one_more is_bot always is_end (bot_elements vars) (all_bots vars) c.args.tokens.now (map view.bot_view c.loop-found.found.items) c.loop-found.before c.loop-found.tokens c.loop-found.invariant.reads
@@ -52,7 +52,7 @@ loop-found-preserved c =
       reads = subst (λ (n : ℕ). StillReads (all_bots vars) c.args.tokens.now (map view.bot_view c.push.new.self.items) (repeated is_bot (a_bot_line vars) one_more n) c.more_bot.new.tokens) one reads;
       few = omega (arith, few);
       same = omega (arith, c.in_ok-push.ensures.len, c.loop-found.invariant.same);
-      plain = subst (λ (bots : List WrittenBot). All Plain bots) (sym pushed) (All-push Plain c.loop-found.found.items c.in-Some.bot c.loop-found.invariant.plain plain);
+      in_range = subst (λ (bots : List WrittenBot). All InRange bots) (sym pushed) (All-push InRange c.loop-found.found.items c.in-Some.bot c.loop-found.invariant.in_range in_range);
     }
 
 pub returns-clause-reads : goal.returns-clause-reads

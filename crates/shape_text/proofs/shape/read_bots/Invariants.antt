@@ -15,7 +15,7 @@ invariant-loop-found l = record {
   reads : StillReads (all_bots l.vars) l.fn.tokens (map view.bot_view l.found.items) (repeated is_bot (a_bot_line l.vars) one_more l.before) l.tokens;
   few : l.before ≤ most_bots;
   same : vec_len l.found ≡ l.before;
-  plain : All (λ b. IsBotInRange b.bot) l.found.items;
+  in_range : All (λ b. IsBotInRange b.bot) l.found.items;
 }
 
 abbrev pub decreases-loop-found : goal.decreases-loop-found

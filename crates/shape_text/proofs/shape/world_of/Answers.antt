@@ -18,7 +18,7 @@ use Rattle.shape_text.specs.declared.shape.WrittenWall.{WrittenWall}
 use Rattle.shape_text.specs.declared.shape.WrittenBot.{WrittenBot}
 use Rattle.shape_text.specs.Shapes.{WrittenShape, written_shape, first_broken, shape_frame, shape_fault}
 use Rattle.shape_text.specs.Views as view
-use Rattle.shape_text.proofs.JudgementsLemmas.{its_node, same_nodes, none_refused, refusing_wall, same_bots, plain_bots, is_faultless, refusing, its_bot}
+use Rattle.shape_text.proofs.JudgementsLemmas.{its_node, same_nodes, none_refused, refusing_wall, same_bots, bots_in_range, is_faultless, refusing, its_bot}
 use Rattle.shape_text.proofs.shape.world_of.Goals as goal
 
 module _ (a : Extent) (maxes : List ℕ) (ws : List WrittenWall) (bs : List WrittenBot) where
@@ -83,8 +83,8 @@ walled-requires-clause-few_walls c =
     let few = c.requires.few_walls in
     omega (arith, size, few)
 
-pub walled-requires-clause-plain : goal.walled-requires-clause-plain
-walled-requires-clause-plain c = subst (λ (bs : List Bot). All IsBotInRange bs) (sym (bots_passed c)) (plain_bots c.args.written.now.bots.items c.requires.plain)
+pub walled-requires-clause-in_range : goal.walled-requires-clause-in_range
+walled-requires-clause-in_range c = subst (λ (bs : List Bot). All IsBotInRange bs) (sym (bots_passed c)) (bots_in_range c.args.written.now.bots.items c.requires.in_range)
 
 pub returns-in-Ok-clause-judged : goal.returns-in-Ok-clause-judged
 returns-in-Ok-clause-judged c = fine_here c.args.written.now.area c.args.maxes c.args.written.now.walls.items c.args.written.now.bots.items c.as_slice-3.result.now c.as_slice-4.result.now

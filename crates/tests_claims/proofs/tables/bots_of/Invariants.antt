@@ -3,4 +3,4 @@ use Rattle.amoebot_state.specs.Refusals.{IsBotInRange}
 use Rattle.tests_claims.proofs.tables.bots_of.Given as goal
 
 abbrev pub invariant-loop-place : goal.invariant-loop-place
-invariant-loop-place l = record { plain : All IsBotInRange l.bots.items }
+invariant-loop-place l = record { in_range : All IsBotInRange l.bots.items }

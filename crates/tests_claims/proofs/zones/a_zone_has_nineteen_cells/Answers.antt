@@ -3,8 +3,8 @@ use Rattle.std.proofs.lemmas.List.Elements.{All-cons, All-nil}
 use Rattle.amoebot_state.specs.Refusals.{IsBotInRange}
 use Rattle.tests_claims.proofs.zones.a_zone_has_nineteen_cells.Goals as goal
 
-pub has_zone-requires-clause-plain : goal.has_zone-requires-clause-plain
-has_zone-requires-clause-plain g c =
+pub has_zone-requires-clause-in_range : goal.has_zone-requires-clause-in_range
+has_zone-requires-clause-in_range g c =
     let bots_8 = c.standing-8.result ∷ [] in
     let plain_8 = All-cons IsBotInRange c.standing-8.result [] c.standing-8.ensures (All-nil IsBotInRange) in
     let bots_7 = c.standing-7.result ∷ bots_8 in

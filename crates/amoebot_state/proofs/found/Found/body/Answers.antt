@@ -4,7 +4,7 @@ use Rattle.amoebot_state.specs.Zones.{Shown, IsShown, shown_alone}
 use Rattle.std.specs.Option.{option_copied}
 use Rattle.amoebot_state.specs.Configs.{bot_at}
 use Rattle.amoebot_state.proofs.ShownAlone.{spread_at}
-use Rattle.amoebot_state.proofs.Shows.{plain_if}
+use Rattle.amoebot_state.proofs.Shows.{in_range_if}
 use Rattle.amoebot_state.proofs.found.Found.body.Goals as goal
 
 value : (c : goal.After-body_in) → option_copied c.body_in.result ≡ bot_at (shown_alone c.args.self.now) c.args.id
@@ -17,5 +17,5 @@ value c =
 pub returns-clause-value : goal.returns-clause-value
 returns-clause-value c = value c
 
-pub returns-clause-plain : goal.returns-clause-plain
-returns-clause-plain c = plain_if c.args.self.now (subst IsShown c.self.view_is c.self.invariant.shown) c.body_in.result c.args.id (value c)
+pub returns-clause-in_range : goal.returns-clause-in_range
+returns-clause-in_range c = in_range_if c.args.self.now (subst IsShown c.self.view_is c.self.invariant.shown) c.body_in.result c.args.id (value c)

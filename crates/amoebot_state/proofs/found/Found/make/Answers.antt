@@ -8,8 +8,8 @@ use Rattle.amoebot_state.proofs.found.Found.make.Goals as goal
 pub own_in-own-requires : goal.own_in-own-requires
 own_in-own-requires c = ap is_some (shown_own _ c.requires.shown).1
 
-pub ways_of-requires-clause-plain : goal.ways_of-requires-clause-plain
-ways_of-requires-clause-plain c = (own_fits _ c.own_in-own.result c.requires.shown c.own_in-own.ensures).0
+pub ways_of-requires-clause-in_range : goal.ways_of-requires-clause-in_range
+ways_of-requires-clause-in_range c = (own_fits _ c.own_in-own.result c.requires.shown c.own_in-own.ensures).0
 
 pub ways_of-requires-clause-few : goal.ways_of-requires-clause-few
 ways_of-requires-clause-few c = (own_fits _ c.own_in-own.result c.requires.shown c.own_in-own.ensures).1

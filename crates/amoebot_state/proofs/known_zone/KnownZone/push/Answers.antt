@@ -9,8 +9,8 @@ use Rattle.amoebot_state.proofs.known_zone.KnownZone.push.Goals as goal
 abbrev made : List CellName → List Way → Reading
 made ns ws = record { names = ns; ways = ws }
 
-pub push_nodes-self-inside-requires-clause-plain : goal.push_nodes-self-inside-requires-clause-plain
-push_nodes-self-inside-requires-clause-plain c =
+pub push_nodes-self-inside-requires-clause-in_range : goal.push_nodes-self-inside-requires-clause-in_range
+push_nodes-self-inside-requires-clause-in_range c =
     let (i, cells, n, known, read) = c.requires in
     let is = grown c.args.area.now i c.self.inside.bot c.self.inside.nodes.items c.self.inside.others.items cells n c.args.cell.now (ap (λ (r : Reading). r.names) (c.self.view_is ∙ known)) read in
     (own_read _ _ _ _ _ _ _ _ is c.in-Body.bot c.in-Body.is (eqb-true _ _ (sym c.is_empty.ensures ∙ c.if-is_empty.true))).0

@@ -16,4 +16,4 @@ grow-requires-clause-near c =
     let v = behind (bot_of w.reached (own_id w)) c.args.port in
     let own : is_own (bot_of w.reached n) v ≡ true = (occupant_told w.reached v n (neighbour_told w.reached (own_id w) c.args.port n c.in_ok-id.ensures.value).1).1 in
     let other = bot_is w.reached n _ c.bot.ensures.value in
-    subst IsNear (ap (λ (b : Bot). behind b c.args.port) (bot_is w.reached (own_id w) _ c.own-2.ensures.value) ∙ sym c.behind-node.ensures) (near_own c.bot.result.now v c.bot.ensures.plain (ap (λ (b : Bot). is_own b v) (sym other) ∙ own))
+    subst IsNear (ap (λ (b : Bot). behind b c.args.port) (bot_is w.reached (own_id w) _ c.own-2.ensures.value) ∙ sym c.behind-node.ensures) (near_own c.bot.result.now v c.bot.ensures.in_range (ap (λ (b : Bot). is_own b v) (sym other) ∙ own))

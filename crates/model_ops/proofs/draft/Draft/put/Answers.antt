@@ -21,7 +21,7 @@ invariant_of-self c =
     let k = c.place_of-place.result in
     let placed = ap (λ (xs : List Member). position (λ m. nat_eq m.id c.args.id) xs) (sym c.as_slice.ensures.value) ∙ c.place_of-place.ensures in
     let P : List Member → Type 0 = IsSite frame s.own in
-    subst P (sym (written_items s.members c.deref_mut.result.now k _ c.args.bot c.deref_mut.ensures.value)) (site_with_now frame s.own ms c.args.id k _ c.args.bot placed c.self.invariant c.requires.plain)
+    subst P (sym (written_items s.members c.deref_mut.result.now k _ c.args.bot c.deref_mut.ensures.value)) (site_with_now frame s.own ms c.args.id k _ c.args.bot placed c.self.invariant c.requires.in_range)
 
 pub returns : goal.returns
 returns c =

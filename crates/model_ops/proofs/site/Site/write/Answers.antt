@@ -13,7 +13,7 @@ invariant_of-self-in-None-port c =
     let s = c.self.inside in
     let v = to_z w32 (of_z w32 c.args.value) in
     let made = write_made s.found.now s.own s.draft c.args.self.now c.self.invariant c.in-None.is c.self.view_is c.args.var v c.in_ok-own-in-None-port.own c.in_ok-own-in-None-port.ensures.value in
-    own_with s.found.now s.own c.in_ok-own-in-None-port.own c.args.var _ c.self.invariant made.0 c.in_ok-own-in-None-port.ensures.plain
+    own_with s.found.now s.own c.in_ok-own-in-None-port.own c.args.var _ c.self.invariant made.0 c.in_ok-own-in-None-port.ensures.in_range
 
 pub returns-in_ok-own-in-None-port-clause-value : goal.returns-in_ok-own-in-None-port-clause-value
 returns-in_ok-own-in-None-port-clause-value c =

@@ -16,11 +16,11 @@ nothing_added : (x : ℤ) → x +ℤ pos 0 ≡ x
 nothing_added x = omega (arith, ints)
 
 pub one_value : (s : Sight) (xs : Names) (sum : Sum) (ps : List Part) (p d : Part) (x : ℤ) → ps ≡ (out-Sum sum).parts.items → length ps ≡ 1 → (slice_index_or ps 0 p).minus ≡ false → term_value s xs (term_of (slice_index_or ps 0 d).term) ≡ Ok x → sum_value s xs (sum_of sum) ≡ Ok x
-one_value s xs sum [] p d x at one plain e = absurd (omega (arith, one))
-one_value s xs sum (q ∷ (r ∷ rs)) p d x at one plain e = absurd (omega (arith, one))
-one_value s xs sum (q ∷ []) p d x at one plain e =
+one_value s xs sum [] p d x at one simple e = absurd (omega (arith, one))
+one_value s xs sum (q ∷ (r ∷ rs)) p d x at one simple e = absurd (omega (arith, one))
+one_value s xs sum (q ∷ []) p d x at one simple e =
     let opened : sum_of sum ≡ terms_of (q ∷ []) = sum_opened sum ∙ ap terms_of (sym at) in
-    rw (opened, part_opened q, e, plain) (ap Ok (nothing_added x))
+    rw (opened, part_opened q, e, simple) (ap Ok (nothing_added x))
 
 -- what was read, where something was
 pub read_is : {A E : Type 0} (r : Result A E) (x : A) → Some x ≡ result_ok r → r ≡ Ok x

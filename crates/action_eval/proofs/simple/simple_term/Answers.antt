@@ -6,8 +6,8 @@ use Rattle.action_tree.specs.Views.{name_of, port_of}
 use Rattle.action_eval.specs.Known.{known, sight_of}
 use Rattle.action_eval.proofs.Nodes.{member_tree}
 use Rattle.action_eval.proofs.Terms.{of_port_is}
-use Rattle.action_eval.proofs.PlainSums.{read_is}
-use Rattle.action_eval.proofs.plain.plain_term.Goals as goal
+use Rattle.action_eval.proofs.SimpleSums.{read_is}
+use Rattle.action_eval.proofs.simple.simple_term.Goals as goal
 
 pub returns-in_ok-value-in-Of : goal.returns-in_ok-value-in-Of
 returns-in_ok-value-in-Of c =

@@ -1,4 +1,4 @@
-//! Comparisons of plain sums: of a number, an own variable,
+//! Comparisons of simple sums: of a number, an own variable,
 //! or a variable behind a name in force or a pair turned from it.
 //! Most comparisons are such.
 
@@ -17,9 +17,9 @@ use action_tree::{Cmp, PortExpr, Sum, Term};
 use amoebot_state::Port;
 use model_ops::Site;
 
-/// The comparison of two plain sums. None, where one of them is not plain or fails.
+/// The comparison of two simple sums. None, where one of them is not simple or fails.
 #[inline(always)]
-pub fn plain_comparison(
+pub fn simple_comparison(
     left: &Sum,
     cmp: Cmp,
     right: &Sum,
@@ -33,14 +33,14 @@ pub fn plain_comparison(
     ensures { IfSome result (λ value. spec.guard_value (sight_of site.now) (known names.now)
         (tree.comparison (view.sum_of left.now) cmp (view.sum_of right.now)) ≡ Ok value) }
 {
-    let left = plain_sum(left, site, names)?;
-    let right = plain_sum(right, site, names)?;
+    let left = simple_sum(left, site, names)?;
+    let right = simple_sum(right, site, names)?;
     Some(compare(cmp, left, right))
 }
 
-/// The value of a sum of one plain term without a minus. None, where it is another sum or fails.
+/// The value of a sum of one simple term without a minus. None, where it is another sum or fails.
 #[inline(always)]
-fn plain_sum(sum: &Sum, site: &Site<'_>, names: &Names<'_>) -> Option<i32>
+fn simple_sum(sum: &Sum, site: &Site<'_>, names: &Names<'_>) -> Option<i32>
     requires kept { SumKept (scope_of (known names.now)) (view.sum_of sum.now) }
     requires placed { sum_placed sum.now (scope_of (known names.now)) ≡ true }
     ensures { IfSome result (λ x.
@@ -50,12 +50,12 @@ fn plain_sum(sum: &Sum, site: &Site<'_>, names: &Names<'_>) -> Option<i32>
     if parts.len() != 1 || parts[0].minus {
         return None;
     }
-    plain_term(&parts[0].term, site, names)
+    simple_term(&parts[0].term, site, names)
 }
 
 /// The value of a number or of a variable. None, where it is another term or fails.
 #[inline(always)]
-fn plain_term(term: &Term, site: &Site<'_>, names: &Names<'_>) -> Option<i32>
+fn simple_term(term: &Term, site: &Site<'_>, names: &Names<'_>) -> Option<i32>
     requires kept { TermKept (scope_of (known names.now)) (view.term_of term.now) }
     requires placed { term_placed term.now (scope_of (known names.now)) ≡ true }
     ensures { IfSome result (λ x.
@@ -68,7 +68,7 @@ fn plain_term(term: &Term, site: &Site<'_>, names: &Names<'_>) -> Option<i32>
             Some(i32::from(value))
         }
         Term::Of(port, name) => {
-            let port = plain_port(port, names)?;
+            let port = simple_port(port, names)?;
             let value = site.read(Some(port), names.var_number(name)).ok()?;
             Some(i32::from(value))
         }
@@ -79,7 +79,7 @@ fn plain_term(term: &Term, site: &Site<'_>, names: &Names<'_>) -> Option<i32>
 /// The pair that a name stands for, or one that is turned from it.
 /// None, where it is another expression.
 #[inline(always)]
-pub fn plain_port(port: &PortExpr, names: &Names<'_>) -> Option<Port>
+pub fn simple_port(port: &PortExpr, names: &Names<'_>) -> Option<Port>
     requires kept { PortKept (scope_of (known names.now)) (view.port_of port.now) }
     requires placed { port_placed port.now (scope_of (known names.now)) ≡ true }
     ensures { IfSome result (λ p.
