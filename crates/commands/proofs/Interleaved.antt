@@ -18,7 +18,7 @@ use Rattle.shape_files.specs.declared.section_kind.Form.TheVariants.{Run, Interl
 use Rattle.shape_files.specs.Frame.{Course, ends, needs, may_schedule, course_of, IsRest, IsHeader}
 use Rattle.shape_files.specs.FrameLaws.{IsStraight}
 use Rattle.shape_files.specs.Documents.{Contents, nothing_yet, Body, IsDocument, HasContents}
-use Rattle.shape_files.proofs.StraightForms.{plain, forms_are_distinct}
+use Rattle.shape_files.proofs.StraightForms.{straight_texts, forms_are_distinct}
 use Rattle.shape_files.proofs.SectionLemmas.{are_sections}
 use Rattle.shape_files.proofs.DocumentsLemmas.{says_of}
 
@@ -45,9 +45,9 @@ document_as_run : (a : Contents) (us : List Lexeme) → IsWhole (IsDocument Inte
 document_as_run a us w =
     let i = whole_in IsHeader (λ version. IsRest Body (course_of Interleave) (nothing_yet version)) us a w in
     let start = nothing_yet i.a in
-    let one = (plain Body are_sections.start (course_of Interleave) (forms_are_distinct Interleave) start).into i.ws a i.second in
+    let one = (straight_texts Body are_sections.start (course_of Interleave) (forms_are_distinct Interleave) start).into i.ws a i.second in
     let other : IsWhole (There (course_of Run) start) i.ws a = record { text = one.text; is = as_run start a one.text one.is; parts = one.parts; fine = one.fine } in
-    whole_then i.vs i.ws us i.a a i.parts i.first ((plain Body are_sections.start (course_of Run) (forms_are_distinct Run) start).back i.ws a other)
+    whole_then i.vs i.ws us i.a a i.parts i.first ((straight_texts Body are_sections.start (course_of Run) (forms_are_distinct Run) start).back i.ws a other)
 
 pub interleaves_are_runs : (bytes : List ℕ) (a : Contents) → HasContents Interleave bytes a → HasContents Run bytes a
 interleaves_are_runs bytes a holds =

@@ -42,7 +42,7 @@ use Rattle.shape_files.specs.FrameLaws.{IsStraight}
 use Rattle.shape_files.specs.Documents.{Contents, nothing_yet, maxes_in, first_in, IsCheckedProgram, JournalBody, Body, IsDocument, HasContents}
 use Rattle.shape_files.specs.Fitting.{HasJournalBy, HasJournal, AreTogether, AreEntriesOf, FitTogether, Fits, DocumentsFit}
 use Rattle.shape_files.proofs.Fine.{Fine, both_of, made_of, step_of, closed_of, judged_of, nothing_of, either_of, one_of, numeral_of, all_of, counted_of, at_most_of}
-use Rattle.shape_files.proofs.StraightForms.{plain, forms_are_distinct}
+use Rattle.shape_files.proofs.StraightForms.{straight_texts, forms_are_distinct}
 use Rattle.shape_files.proofs.SectionLemmas.{are_sections}
 
 -- ---- the program
@@ -390,7 +390,7 @@ written_down form bytes a holds =
     let rest = both.behind in
     let version = both.value in
     let behind : IsWhole (IsRest Body (course_of form) (nothing_yet version)) (tokens rest.text) a = record { text = rest.text; is = rest.is; parts = refl; fine = rest.fine } in
-    let straight = (plain Body are_sections.start (course_of form) (forms_are_distinct form) (nothing_yet version)).into (tokens rest.text) a behind in
+    let straight = (straight_texts Body are_sections.start (course_of form) (forms_are_distinct form) (nothing_yet version)).into (tokens rest.text) a behind in
     record { version = version; right = version_within least_version version both.before; sections = record { text = straight.text; is = straight.is; fine = straight.fine } }
 
 pub documents_fit : DocumentsFit

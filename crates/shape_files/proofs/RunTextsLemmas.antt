@@ -42,7 +42,7 @@ use Rattle.shape_files.specs.Frame.{Course, ends, needs, may, may_schedule, may_
 use Rattle.shape_files.specs.FrameLaws.{IsStraight}
 use Rattle.shape_files.specs.Documents.{Contents, nothing_yet, var_count, actions_of, maxes_in, bots_of, JournalBody, Body, IsDocument, HasContents}
 use Rattle.shape_files.specs.RunTexts.{KeepsRunLimits, RunsAreReplayed}
-use Rattle.shape_files.proofs.StraightForms.{plain, forms_are_distinct}
+use Rattle.shape_files.proofs.StraightForms.{straight_texts, forms_are_distinct}
 use Rattle.shape_files.proofs.ContinuedTexts.{feed_last, tokens_on, EndsInFeed}
 use Rattle.shape_files.proofs.SectionLemmas.{are_sections}
 use Rattle.shape_files.proofs.DocumentsLemmas.{says_of}
@@ -88,8 +88,8 @@ whole_behind s a b us vs p q = record {
 document_behind : (a b : Contents) (ts vs : List Lexeme) → IsWhole (IsDocument Run) ts a → IsWhole (There recorded a) vs b → IsWhole (IsDocument Replay) (ts ++ vs) b
 document_behind a b ts vs w q =
     let i = whole_in IsHeader (λ version. IsRest Body (course_of Run) (nothing_yet version)) ts a w in
-    let run = (plain Body are_sections.start (course_of Run) (forms_are_distinct Run) (nothing_yet i.a)).into i.ws a i.second in
-    let rest = (plain Body are_sections.start (course_of Replay) (forms_are_distinct Replay) (nothing_yet i.a)).back (i.ws ++ vs) b (whole_behind (nothing_yet i.a) a b i.ws vs run q) in
+    let run = (straight_texts Body are_sections.start (course_of Run) (forms_are_distinct Run) (nothing_yet i.a)).into i.ws a i.second in
+    let rest = (straight_texts Body are_sections.start (course_of Replay) (forms_are_distinct Replay) (nothing_yet i.a)).back (i.ws ++ vs) b (whole_behind (nothing_yet i.a) a b i.ws vs run q) in
     whole_then i.vs (i.ws ++ vs) (ts ++ vs) i.a b (ap (λ (us : List Lexeme). us ++ vs) i.parts ∙ append_assoc i.vs i.ws vs) i.first rest
 
 -- ---- the text of a run

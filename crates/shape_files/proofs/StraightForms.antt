@@ -79,8 +79,8 @@ module _ {S : Type 0} (Body : Section → S → Lang S) (words : BeginWithTheirW
   from_plain (may k c d) distinct s b zs (of_first is) fine = from_with k c (may k c d) (λ t e. rw e refl) (λ r b ys q f. from_plain c distinct.1 r b ys q f) s b zs is fine
   from_plain (may k c d) distinct s b zs (of_second is) fine = beside k c d distinct.0 s b zs (from_plain d distinct.2 s b zs is fine) fine
 
-  pub plain : (c : Course) → Distinct c → (s : S) → SameTexts Body c s
-  plain c distinct s = record {
+  pub straight_texts : (c : Course) → Distinct c → (s : S) → SameTexts Body c s
+  straight_texts c distinct s = record {
     into = λ us a w. record { text = w.text; is = to_plain c s a w.text w.is w.fine; parts = w.parts; fine = w.fine };
     back = λ us a w. record { text = w.text; is = from_plain c distinct s a w.text w.is w.fine; parts = w.parts; fine = w.fine };
   }

@@ -11,7 +11,7 @@ use Rattle.amoebot_state.specs.Refusals.{IsBotInRange, bot_fault}
 use Rattle.amoebot_state.specs.Limits.{most_value}
 use Rattle.amoebot_state.specs.Examples.{eight_by_eight, zeros}
 use Rattle.amoebot_state.proofs.Faults.{frame_valid, valid_one}
-use Rattle.amoebot_state.proofs.StepExamples.{plain}
+use Rattle.amoebot_state.proofs.StepExamples.{in_range}
 use Rattle.claim_core.specs.declared.marks.Mark.{Mark}
 use Rattle.claim_core.specs.declared.marks.Mark.TheVariants as mark
 use Rattle.shape_text.specs.Parts.{a_node_of}
@@ -26,7 +26,7 @@ use Rattle.shape_files.specs.WholeTextRows.{two_marks, WholeTextRows}
 -- ---- one amoebot
 
 one_valid : (b : Bot) → IsBotInRange b → bot_fault (frame_of eight_by_eight zeros) b ≡ None → IsValid (shape_of_one b)
-one_valid b plain fine =
+one_valid b in_range fine =
     valid_one (frame_of eight_by_eight zeros) (frame_valid (frame_of eight_by_eight zeros) (record {
       x_low = omega (arith, ints);
       x_high = omega (arith, ints);
@@ -36,7 +36,7 @@ one_valid b plain fine =
       w_high = omega arith;
       h_low = omega arith;
       h_high = omega arith;
-    }) refl) b plain fine
+    }) refl) b in_range fine
 
 one_written : (version : ℕ) (b : Bot) → b.mem ≡ zeros → IsValid (shape_of_one b) → IsWritableConfig version 0 (shape_of_one b)
 one_written version b e valid = record { valid = valid; walls = λ none. refl; few = omega arith; no_gaps = none; maxes = All-replicate (λ m. m ≤ most_value) 8 0 (omega arith); zeros = all }
@@ -50,10 +50,10 @@ one_written version b e valid = record { valid = valid; walls = λ none. refl; f
     all (suc id) d at = absurd cc
 
 at_start : (version : ℕ) → IsWritableConfig version 0 (shape_of_one bot_before)
-at_start version = one_written version bot_before refl (one_valid bot_before (plain bot_before refl refl (omega arith) refl) refl)
+at_start version = one_written version bot_before refl (one_valid bot_before (in_range bot_before refl refl (omega arith) refl) refl)
 
 at_end : (version : ℕ) → IsWritableConfig version 0 (shape_of_one bot_after)
-at_end version = one_written version bot_after refl (one_valid bot_after (plain bot_after refl refl (omega arith) refl) refl)
+at_end version = one_written version bot_after refl (one_valid bot_after (in_range bot_after refl refl (omega arith) refl) refl)
 
 the_program : IsWritableProgram out
 the_program = record { writable = refl; checked = refl }

@@ -56,7 +56,7 @@ use Rattle.shape_files.specs.Fitting.{HasJournalBy, IsWritableProgram}
 use Rattle.shape_files.specs.WholeTexts.{header_line, text_of_some, document_text, AreWritableMarks, IsWritableDocument, bare_contents, HasBareContents, DocumentsReadBack}
 use Rattle.shape_files.proofs.CheckedLemmas.{none_first}
 use Rattle.shape_files.proofs.BareParts.{still_faultless, as_many_vars, as_many_actions, same_maxes}
-use Rattle.shape_files.proofs.StraightForms.{plain, forms_are_distinct}
+use Rattle.shape_files.proofs.StraightForms.{straight_texts, forms_are_distinct}
 use Rattle.shape_files.proofs.SectionLemmas.{are_sections}
 use Rattle.shape_files.proofs.DocumentsLemmas.{says_of}
 
@@ -121,7 +121,7 @@ module _ (version : ℕ) (right : IsVersion version) where
     in_form : Reads (IsRest Body (course_of form) start) R words
     in_form ts s =
         let f = read ts s in
-        record { value = f.value; whole = (plain Body are_sections.start (course_of form) (forms_are_distinct form) start).back ts f.value f.whole; holds = f.holds }
+        record { value = f.value; whole = (straight_texts Body are_sections.start (course_of form) (forms_are_distinct form) start).back ts f.value f.whole; holds = f.holds }
 
     behind_header : Reads (IsDocument form) R (the_header.words ++ words)
     behind_header ts s = behind_found the_header.words words the_header.read (λ v e us t. subst (λ (u : ℕ). Found (IsRest Body (course_of form) (nothing_yet u)) R us) (sym e) (in_form us t)) ts s
