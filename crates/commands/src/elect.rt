@@ -17,7 +17,7 @@ ghost use Rattle.text_tokens.specs.Lines.{line_text};
 use crate::words::DocumentCommand;
 use amoebot_state::{NoMemory, World};
 use document_answers::{
-    Answer, Journal, Recorded, Status, differ, done, put_number, put_word, recorded_in, refuse,
+    Answer, Journal, Status, differ, done, put_number, put_word, recorded_in, refuse,
 };
 use election_law::{ElectRefusal, Election, erosion_elects, is_erosion, start_laws};
 use serial_model::{Differs, EntryForm};
@@ -32,12 +32,7 @@ pub(crate) fn answer_elect(alloc: Global, parts: Parts) -> Result<Answer, NoMemo
     ensures { IfOk result (IsAnswerOf (ElectOutcome (contents parts))) }
 {
     start_laws();
-    let Recorded {
-        runner,
-        start,
-        last,
-        journal,
-    } = recorded_in(parts);
+    let (runner, start, last, journal) = recorded_in(parts);
     if !is_erosion(runner.checked().program()) {
         return refuse(alloc, whole_document(RefusalKind::NotErosion));
     }

@@ -2,13 +2,15 @@
 use Rattle.std.proofs.Common.{◌≡◌, ℕ, List, Option, sym, subst, Result}
 use Rattle.std.specs.Prelude.{IfOk}
 use Rattle.text_tokens.specs.declared.refusal.Refusal.{Refusal}
+use Rattle.amoebot_state.specs.Configs.{Config}
 use Rattle.claim_core.specs.declared.report.Report.{Report}
+use Rattle.action_tree.specs.Trees.{Program}
 use Rattle.shape_files.specs.Documents.{Contents}
 use Rattle.document_answers.specs.declared.answer.Answer.{Answer}
 use Rattle.document_answers.specs.declared.status.Status.TheVariants as status
 use Rattle.document_answers.specs.Journals.{DocumentRecord}
 use Rattle.document_answers.specs.Answers.{IsAnswerOf, with_text, refusal_line}
-use Rattle.document_answers.specs.declared.recorded.Recorded.{Recorded}
+use Rattle.document_answers.specs.declared.recorded.Journal.{Journal}
 use Rattle.document_answers.specs.Recorded.{IsRecordOf}
 use Rattle.document_answers.specs.declared.status.Status.{Status}
 use Rattle.std.proofs.lemmas.Result.{IfOk-weaker}
@@ -17,8 +19,8 @@ use Rattle.std.proofs.lemmas.Result.{IfOk-weaker}
 pub answers : (Outcome : Status → Option Report → List ℕ → Type 0) (one two : Answer) → one ≡ two → IsAnswerOf Outcome two → IsAnswerOf Outcome one
 answers Outcome one two same is = subst (IsAnswerOf Outcome) (sym same) is
 
-abbrev pub record_of : (a : Contents) (r : Recorded) → IsRecordOf a r → DocumentRecord a
-record_of a r is = record { program = r.runner; start = r.start; final = r.last; its_program = is.program; its_shape = is.start; its_final = is.last }
+abbrev pub record_of : (a : Contents) (r : Program × Config × Config × Journal) → IsRecordOf a r.0 r.1 r.2 r.3 → DocumentRecord a
+record_of a r is = record { program = r.0; start = r.1; final = r.2; its_program = is.program; its_shape = is.start; its_final = is.last }
 
 -- where it is that for each answer that is left
 pub ok_answers : {X : Type 0} (Outcome : Status → Option Report → List ℕ → Type 0) (r : Result Answer X) (one : Answer) → IsAnswerOf Outcome one → IfOk r (λ (a : Answer). a ≡ one) → IfOk r (IsAnswerOf Outcome)

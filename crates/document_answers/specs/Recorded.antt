@@ -5,11 +5,12 @@ use Rattle.std.specs.declared.option.Option.{Option}
 use Rattle.std.specs.declared.option.Option.TheVariants.{Some, None}
 use Rattle.amoebot_state.specs.declared.verdict.Entry.{Entry}
 use Rattle.amoebot_state.specs.declared.verdict.PlainEntry.{PlainEntry}
+use Rattle.amoebot_state.specs.Configs.{Config}
 use Rattle.serial_model.specs.Replays.{AreCountable}
+use Rattle.action_tree.specs.Trees.{Program}
 use Rattle.shape_files.specs.Documents.{Contents}
 use Rattle.document_answers.specs.declared.recorded.Journal.{Journal}
 use Rattle.document_answers.specs.declared.recorded.Journal.TheVariants as journal
-use Rattle.document_answers.specs.declared.recorded.Recorded.{Recorded}
 
 -- the journal of a document, in the one of the two forms that it has
 abbrev pub HasItsJournal : Contents → Journal → Type 0
@@ -31,12 +32,12 @@ abbrev pub IsOfBots : ℕ → Journal → Type 0
 IsOfBots bots (journal.Full es) = All (λ (e : Entry). e.bot < bots) es × AreCountable es
 IsOfBots bots (journal.Plain ps) = All (λ (p : PlainEntry). p.bot < bots) ps × AreCountable ps
 
--- It is the document's program, its shape, its final shape and its journal.
+-- They are the document's program, its shape, its final shape and its journal.
 -- The journal's entries are few, and their amoebots are the shape's.
-pub record IsRecordOf (a : Contents) (r : Recorded) : Type 0 where
-  pub program : a.checked ≡ Some r.runner
-  pub start : a.world ≡ Some r.start
-  pub last : a.final_world ≡ Some r.last
-  pub entries : a.entries ≡ full_of r.journal
-  pub journal : HasItsJournal a r.journal
-  pub bots : IsOfBots (length r.start.bots) r.journal
+pub record IsRecordOf (a : Contents) (p : Program) (c d : Config) (j : Journal) : Type 0 where
+  pub program : a.checked ≡ Some p
+  pub start : a.world ≡ Some c
+  pub last : a.final_world ≡ Some d
+  pub entries : a.entries ≡ full_of j
+  pub journal : HasItsJournal a j
+  pub bots : IsOfBots (length c.bots) j

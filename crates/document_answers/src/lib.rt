@@ -20,7 +20,7 @@ pub use check::{answer_check, canon_means_the_same, print_check};
 pub use interleave::{answer_interleave, interleave_report_is_one, run_interleaved};
 pub use lines::{put_answer, put_number, put_word};
 pub use measure::{answer_measure, measure_text_is_one, print_measures};
-pub use recorded::{Journal, Recorded, recorded_in};
+pub use recorded::{Journal, recorded_in};
 pub use renew::{answer_renew, follow_all, print_renewed};
 pub use replay::{answer_replay, compare, print_agrees, print_differs, replay_is_decided};
 pub use report::{answer_report, print_report};

@@ -30,20 +30,12 @@ impl Journal {
     }
 }
 
-/// The program, the shape at the start, the final shape, and the journal.
-#[derive(Drop)]
-pub struct Recorded {
-    pub runner: Runner,
-    pub start: World,
-    pub last: World,
-    pub journal: Journal,
-}
-
-/// What a document has that a command with a journal looks at.
+/// What a document has that a command with a journal looks at:
+/// the program, the shape at the start, the final shape, and the journal.
 /// The amoebots of the entries are the start's.
-pub fn recorded_in(parts: Parts) -> Recorded
+pub fn recorded_in(parts: Parts) -> (Runner, World, World, Journal)
     requires { Fits Form.Replay (contents parts) }
-    ensures { IsRecordOf (contents parts) result }
+    ensures { IsRecordOf (contents parts) result.0 result.1 result.2 result.3 }
 {
     let Parts {
         checked,
@@ -56,12 +48,7 @@ pub fn recorded_in(parts: Parts) -> Recorded
     let runner = Runner::new(checked.unwrap());
     let start = world.unwrap();
     let last = final_world.unwrap();
-    Recorded {
-        runner,
-        start,
-        last,
-        journal: journal_in(entries, plain),
-    }
+    (runner, start, last, journal_in(entries, plain))
 }
 
 /// The journal with old values, if there is one, and else the other.

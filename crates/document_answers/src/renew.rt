@@ -11,7 +11,7 @@ ghost use Rattle.action_meaning.specs.Verdicts.{verdict_shown};
 
 use crate::answer::{Answer, differ, done};
 use crate::lines::put_word;
-use crate::recorded::{Journal, Recorded, recorded_in};
+use crate::recorded::{Journal, recorded_in};
 use crate::replay::compare;
 use crate::status::Status;
 use action_eval::Runner;
@@ -30,12 +30,7 @@ pub fn answer_renew(alloc: Global, parts: Parts) -> Result<Answer, NoMemory>
     requires { Fits Form.Replay (contents parts) }
     ensures { IfOk result (IsAnswerOf (RenewOutcome (contents parts))) }
 {
-    let Recorded {
-        runner,
-        start,
-        last,
-        journal,
-    } = recorded_in(parts);
+    let (runner, start, last, journal) = recorded_in(parts);
     match journal {
         Journal::Full(full) => renew_full(alloc, &runner, &start, full.entries(), &last),
         Journal::Plain(plain) => renew_plain(alloc, &runner, &start, plain.entries(), &last),

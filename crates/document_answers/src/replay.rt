@@ -10,7 +10,7 @@ ghost use Rattle.action_meaning.specs.Verdicts.{verdict_shown};
 
 use crate::answer::{Answer, agree, differ};
 use crate::lines::put_number;
-use crate::recorded::{Journal, Recorded, recorded_in};
+use crate::recorded::{Journal, recorded_in};
 use action_eval::Runner;
 use amoebot_state::{Decider, NoMemory, World};
 use serial_model::{
@@ -27,12 +27,7 @@ pub fn answer_replay(alloc: Global, parts: Parts) -> Result<Answer, NoMemory>
     requires { Fits Form.Replay (contents parts) }
     ensures { IfOk result (IsAnswerOf (ReplayOutcome (contents parts))) }
 {
-    let Recorded {
-        runner,
-        start,
-        last,
-        journal,
-    } = recorded_in(parts);
+    let (runner, start, last, journal) = recorded_in(parts);
     match journal {
         Journal::Full(full) => tell_run(alloc, &runner, start, full.entries(), &last),
         Journal::Plain(plain) => tell_run(alloc, &runner, start, plain.entries(), &last),

@@ -8,7 +8,7 @@ ghost use Rattle.document_answers.specs.Answers.{IsAnswerOf, with_text};
 ghost use Rattle.shape_text.specs.Texts.{shape_text};
 
 use crate::answer::{Answer, differ, done, refuse};
-use crate::recorded::{Recorded, recorded_in};
+use crate::recorded::recorded_in;
 use crate::status::Status;
 use action_eval::Runner;
 use amoebot_state::{NoMemory, World};
@@ -25,12 +25,7 @@ pub fn answer_rewind(alloc: Global, place: u32, parts: Parts) -> Result<Answer, 
     requires least { with_old_values ≤ (contents parts).version }
     ensures { IfOk result (IsAnswerOf (RewindOutcome (contents parts) place)) }
 {
-    let Recorded {
-        runner,
-        start,
-        last,
-        journal,
-    } = recorded_in(parts);
+    let (runner, start, last, journal) = recorded_in(parts);
     let full = journal.full().unwrap();
     let entries = full.entries();
     if (place as usize) > entries.len() {

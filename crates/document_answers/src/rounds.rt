@@ -10,7 +10,7 @@ ghost use Rattle.action_meaning.specs.Verdicts.{verdict_shown};
 
 use crate::answer::{Answer, differ, done};
 use crate::lines::put_number;
-use crate::recorded::{Journal, Recorded, recorded_in};
+use crate::recorded::{Journal, recorded_in};
 use action_eval::Runner;
 use amoebot_state::{Decider, NoMemory, World};
 use round_meter::{Meter, each_run_is_rounded, meter_tells_rounds, rounds_are_unique};
@@ -24,12 +24,7 @@ pub fn answer_rounds(alloc: Global, parts: Parts) -> Result<Answer, NoMemory>
     requires { Fits Form.Replay (contents parts) }
     ensures { IfOk result (IsAnswerOf (RoundsOutcome (contents parts))) }
 {
-    let Recorded {
-        runner,
-        start,
-        last,
-        journal,
-    } = recorded_in(parts);
+    let (runner, start, last, journal) = recorded_in(parts);
     match journal {
         Journal::Full(full) => tell_count(alloc, &runner, start, full.entries(), &last),
         Journal::Plain(plain) => tell_count(alloc, &runner, start, plain.entries(), &last),

@@ -19,13 +19,13 @@ use Rattle.commands.proofs.ElectLemmas.{of_began, refused_start}
 pub returns-then-not-is_erosion : goal.returns-then-not-is_erosion
 returns-then-not-is_erosion c =
     let r = c.recorded_in-runner in
-    let other = λ (erodes : IsErosion r.result.runner). false≢true (sym c.if-not-is_erosion.true ∙ c.is_erosion.ensures.1 (subst IsErosion (sym (c.program.ensures.program ∙ c.checked.ensures)) erodes)) in
+    let other = λ (erodes : IsErosion r.result.0). false≢true (sym c.if-not-is_erosion.true ∙ c.is_erosion.ensures.1 (subst IsErosion (sym (c.program.ensures.program ∙ c.checked.ensures)) erodes)) in
     let a = contents c.args.parts in
     ok_answers (ElectOutcome a) _ _ (no_erosion (record_of a r.result r.ensures) other) (refused_with _ _ _ c.whole_document.ensures c.refuse.ensures)
 
 pub elect-requires-in-Plain-clause-there : goal.elect-requires-in-Plain-clause-there
 elect-requires-in-Plain-clause-there c =
-    let bots = subst (IsOfBots (length c.recorded_in-runner.result.start.bots)) c.in-Plain.is c.recorded_in-runner.ensures.bots in
+    let bots = subst (IsOfBots (length c.recorded_in-runner.result.1.bots)) c.in-Plain.is c.recorded_in-runner.ensures.bots in
     let world = sym (ap (λ (e : ElectionState). e.world) c.in-Ok.ensures.open) in
     subst (λ (z : List PlainEntry × Config). All (λ (p : PlainEntry). p.bot < length z.1.bots) z.0) (λ i. (sym c.entries-in-Plain.ensures i, world i)) bots.0
 
