@@ -10,6 +10,13 @@ const TIMES: u32 = 100;
 /// since who looks has a processor that another worker may need.
 const LOOKS: u32 = 4_000;
 
+/// Where there are more workers than this, few of them have a processor at a time.
+const MANY: u64 = 8;
+
+/// How often each of so many looks before the first time.
+/// Who looks takes a processor from one that could make its turn.
+const LOOKS_OF_MANY: u32 = 50;
+
 /// The most looks between two times, some tenths of a millisecond.
 const MOST_LOOKS: u32 = 524_288;
 
@@ -42,6 +49,7 @@ const ANY: u64 = 1 << 40;
 #[derive(Drop)]
 pub(crate) struct Start {
     workers: u64,
+    looks: u32,
     begun: AtomicU64,
     made: AtomicU64,
     in_order: AtomicU64,
@@ -54,6 +62,7 @@ impl Start {
         let workers = u64::from(workers);
         Start {
             workers,
+            looks: if workers > MANY { LOOKS_OF_MANY } else { LOOKS },
             begun: AtomicU64::new(0),
             made: AtomicU64::new(0),
             in_order: AtomicU64::new(IN_ORDER),
@@ -66,7 +75,7 @@ impl Start {
     /// where no thread could be started, some workers begin only after others have ended.
     pub(crate) fn begin(&self) {
         self.begun.fetch_add(1, Ordering::SeqCst);
-        let mut looks = LOOKS;
+        let mut looks = self.looks;
         for _time in 0..TIMES {
             if reaches(&self.begun, self.workers, looks) {
                 return;
@@ -84,13 +93,13 @@ impl Start {
     /// until all callers have made the turns before, and those below it this one too.
     pub(crate) fn await_order(&self, caller: u8, turn: u32) {
         let turn = u64::from(turn);
-        if turn >= self.in_order.load(Ordering::SeqCst) {
+        if turn >= IN_ORDER || turn >= self.in_order.load(Ordering::SeqCst) {
             return;
         }
         let before = turn
             .wrapping_mul(self.workers)
             .wrapping_add(u64::from(caller));
-        let mut looks = LOOKS;
+        let mut looks = self.looks;
         for _time in 0..TIMES_IN_ORDER {
             if reaches(&self.made, before, looks) {
                 return;
@@ -125,10 +134,10 @@ impl Start {
         let more = u64::from(turns).wrapping_mul(self.workers.max(AS_FEW)) / LOOSER;
         let most = least.saturating_add(more);
         let mut lack = lack.max(least);
-        if reaches(&self.made, own.saturating_sub(lack), LOOKS) {
+        if reaches(&self.made, own.saturating_sub(lack), self.looks) {
             return (lack / 2).max(least);
         }
-        let mut looks = LOOKS;
+        let mut looks = self.looks;
         for _time in 0..TIMES {
             thread::yield_now();
             lack = lack.saturating_mul(2).min(most);
