@@ -1,4 +1,4 @@
-"""A plain checker of reports, which knows the model and no claims.
+"""A small checker of reports, which knows the model and no claims.
 
 It reads a document and what `run` or `tickets` wrote of it. It shares no code with the program. It is written
 from docs/FORMAT.md and docs/MODEL.md, and looks only at documents that have no fault.
@@ -224,7 +224,7 @@ class Reader:
 
     def need(self, word):
         if self.next() != word:
-            raise Wrong(f"the plain checker reads {self.tokens[self.at - 1]!r}, where {word!r} should be")
+            raise Wrong(f"the checker reads {self.tokens[self.at - 1]!r}, where {word!r} should be")
 
     def integer(self):
         sign = -1 if self.takes("-") else 1
